@@ -12,26 +12,26 @@ use Rattle.rules.specs.declared.Message.{Message}
 use Rattle.rules.specs.Base.{if◌then◌else◌}
 use Rattle.rules.specs.Records.{answer}
 use Rattle.rules.specs.Effects.{Effect, nothing}
-use Rattle.rules.specs.Places.{closeGaps}
-use Rattle.rules.specs.Refusals.{refusalOf}
+use Rattle.rules.specs.Places.{close_gaps}
+use Rattle.rules.specs.Refusals.{refusal_of}
 use Rattle.rules.specs.Step.{perform, accept, mask, filled, StepOutcome, answered}
 use Rattle.records.specs.Seen.{Seen, seen, ◌writes◌}
 use Rattle.records.specs.Stage.{stage, ◌does◌}
 use Rattle.records.proofs.SeenLaws.{answer-last}
 use Rattle.records.proofs.StageLaws.{does-nothing, follow, stage-venue, stage-written}
-use Rattle.places.specs.Layout.{venueOf}
+use Rattle.places.specs.Layout.{venue_of}
 use Rattle.book.proofs.Masks.{ones-mask}
 use Rattle.answers.specs.declared.Stepped.{Stepped}
-use Rattle.answers.specs.Steps.{answeredBy, rangedBy, Finishes, Steps}
+use Rattle.answers.specs.Steps.{answered_by, ranged_by, Finishes, Steps}
 
 -- Its effects, and then the gaps closed -------------------------------------------------------
 
-accept-law : (w : Seen) (number : ℕ) (m : Message) (v v₁ v₂ : Venue) (l : List ℕ) (at : ℕ) → stage v₁ l at ≡ w does perform number m v → v₂ ≡ closeGaps v₁ →
+accept-law : (w : Seen) (number : ℕ) (m : Message) (v v₁ v₂ : Venue) (l : List ℕ) (at : ℕ) → stage v₁ l at ≡ w does perform number m v → v₂ ≡ close_gaps v₁ →
     stage v₂ l at ≡ w does accept number m v
 unfolding accept
 accept-law w number m v v₁ v₂ l at p q =
-    follow w (perform number m v) (λ (x : Venue). nothing (closeGaps x)) v₁ v₂ l l at at p
-    (ap (λ (x : Venue). stage x l at) q ∙ does-nothing (closeGaps v₁) l at)
+    follow w (perform number m v) (λ (x : Venue). nothing (close_gaps x)) v₁ v₂ l l at at p
+    (ap (λ (x : Venue). stage x l at) q ∙ does-nothing (close_gaps v₁) l at)
 
 -- The answer ----------------------------------------------------------------------------------
 
@@ -65,38 +65,38 @@ pub steps-as : (a c : StepOutcome) (l : List ℕ) (r : Stepped) (b o : List ℕ)
 steps-as a c l r b o e s = rw e at s
 
 module _ (v : Venue) (number : ℕ) (m : Message) where
-  by-accepted : refusalOf v m ≡ 0 → answered number 0 (accept number m v) ≡ answeredBy v number m
-  unfolding answeredBy
+  by-accepted : refusal_of v m ≡ 0 → answered number 0 (accept number m v) ≡ answered_by v number m
+  unfolding answered_by
   by-accepted e = ap (λ (x : ℕ). answered number x (if eqb x 0 then accept number m v else nothing v)) (sym e)
 
-  by-refused : (x : ℕ) → x ≡ refusalOf v m → (x ≡ 0 → ⊥) → answered number x (nothing v) ≡ answeredBy v number m
-  unfolding answeredBy
+  by-refused : (x : ℕ) → x ≡ refusal_of v m → (x ≡ 0 → ⊥) → answered number x (nothing v) ≡ answered_by v number m
+  unfolding answered_by
   by-refused x e n =
       ap (λ (t : Bool). answered number x (if t then accept number m v else nothing v)) (sym (ne_eqb x 0 n))
       ∙ ap (λ (y : ℕ). answered number y (if eqb y 0 then accept number m v else nothing v)) e
 
   -- a message in range that is refused, and one whose answer is written, its effects done and its answer set
   module _ (l : List ℕ) (r : Stepped) (b o : List ℕ) where
-    pub refused-steps : (x : ℕ) → x ≡ refusalOf v m → (x ≡ 0 → ⊥) → Steps (answered number x (nothing v)) l r b o → Steps (answeredBy v number m) l r b o
+    pub refused-steps : (x : ℕ) → x ≡ refusal_of v m → (x ≡ 0 → ⊥) → Steps (answered number x (nothing v)) l r b o → Steps (answered_by v number m) l r b o
     refused-steps x e n = steps-as _ _ l r b o (by-refused x e n)
 
-    pub done-steps : (b₁ k n : List ℕ) (i end : ℕ) → refusalOf v m ≡ 0 → seen k i ≡ seen l 0 writes (answer number 0 0 0 ∷ []) →
-        stage (venueOf b₁) n end ≡ seen k i does perform number m v → Finishes number b₁ n end r b o → Steps (answeredBy v number m) l r b o
+    pub done-steps : (b₁ k n : List ℕ) (i end : ℕ) → refusal_of v m ≡ 0 → seen k i ≡ seen l 0 writes (answer number 0 0 0 ∷ []) →
+        stage (venue_of b₁) n end ≡ seen k i does perform number m v → Finishes number b₁ n end r b o → Steps (answered_by v number m) l r b o
     unfolding answered
     done-steps b₁ k n i end z p q f =
-        let a = accept-law (seen k i) number m v (venueOf b₁) (venueOf b) n end q f.venue in
-        let w = accepted-law (venueOf b) (accept number m v) l k n o i end number p a f.set in
-        steps-as _ _ l r b o (by-accepted z) (record { refused = f.refused; staged = ap (stage (venueOf b) o) f.written ∙ w; dense = f.dense })
+        let a = accept-law (seen k i) number m v (venue_of b₁) (venue_of b) n end q f.venue in
+        let w = accepted-law (venue_of b) (accept number m v) l k n o i end number p a f.set in
+        steps-as _ _ l r b o (by-accepted z) (record { refused = f.refused; staged = ap (stage (venue_of b) o) f.written ∙ w; dense = f.dense })
 
     -- and by its range
-    pub out-steps : (t e : Bool) → t ≡ false → Steps (answered number 4 (nothing v)) l r b o → Steps (rangedBy v number t e m) l r b o
-    unfolding rangedBy
+    pub out-steps : (t e : Bool) → t ≡ false → Steps (answered number 4 (nothing v)) l r b o → Steps (ranged_by v number t e m) l r b o
+    unfolding ranged_by
     out-steps t e h s = rw h s
 
-    pub equal-steps : (t e : Bool) → t ≡ true → e ≡ true → Steps (answered number 14 (nothing v)) l r b o → Steps (rangedBy v number t e m) l r b o
-    unfolding rangedBy
+    pub equal-steps : (t e : Bool) → t ≡ true → e ≡ true → Steps (answered number 14 (nothing v)) l r b o → Steps (ranged_by v number t e m) l r b o
+    unfolding ranged_by
     equal-steps t e h q s = rw (h, q) s
 
-    pub in-steps : (t e : Bool) → t ≡ true → e ≡ false → Steps (answeredBy v number m) l r b o → Steps (rangedBy v number t e m) l r b o
-    unfolding rangedBy
+    pub in-steps : (t e : Bool) → t ≡ true → e ≡ false → Steps (answered_by v number m) l r b o → Steps (ranged_by v number t e m) l r b o
+    unfolding ranged_by
     in-steps t e h q s = rw (h, q) s

@@ -1,7 +1,7 @@
 // The answer to a message, record 64. For a refused message it is the only record. For an accepted one the engine writes it first, and mask and count last.
 ghost use Rattle.rules.specs.Effects.{nothing};
 ghost use Rattle.rules.specs.Step.{answered};
-ghost use Rattle.places.specs.Layout.{venueOf};
+ghost use Rattle.places.specs.Layout.{venue_of};
 ghost use Rattle.answers.specs.Steps.{Finishes, Steps};
 ghost use Rattle.places.specs.Requirements.{RightNumbers, DenseNumbers};
 
@@ -15,7 +15,7 @@ pub struct Stepped {
 // A refused message: the engine writes its answer and nothing else.
 pub fn refuse(numbers: &[u32], number: u32, refused: u8, out: &mut [u8]) -> Stepped
     requires { DenseNumbers numbers.now }
-    ensures { Steps (answered number refused (nothing (venueOf numbers.now))) out.old result numbers.now out.new }
+    ensures { Steps (answered number refused (nothing (venue_of numbers.now))) out.old result numbers.now out.new }
 {
     let mask = places::mask_of(numbers);
     let count = book::count_of(mask);

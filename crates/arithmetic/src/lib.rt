@@ -1,19 +1,19 @@
 // Functions on numbers and on the types of rules. They use no other crate.
 ghost use Rattle.std.specs.Prelude.{◌≡◌, ℕ, min, ◌+◌, ◌≤◌, ◌-◌, eqb, ℤ, pos, nat_abs, ◌+ℤ◌};
 ghost use Rattle.rules.specs.Base.{if◌then◌else◌};
-ghost use Rattle.rules.specs.Words.{opposite, signTimes, placeOf, freshVenue, sell, isPrice, isQuantity, isRatio, oneToOne};
-ghost use Rattle.rules.specs.Settings.{baseFigure, isIncrement};
-ghost use Rattle.rules.specs.Messages.{length_of, messageForm};
-ghost use Rattle.rules.specs.Records.{causeNumber};
-ghost use Rattle.rules.specs.Prices.{shownSize, displayedPrice, weighed, nearNet, better, betterOf, reaches};
-ghost use Rattle.rules.specs.Standing.{verdictNumber};
-ghost use Rattle.rules.specs.Refusals.{decodedNumber};
+ghost use Rattle.rules.specs.Words.{opposite, sign_times, place_of, fresh_venue, sell, is_price, is_quantity, is_ratio, one_to_one};
+ghost use Rattle.rules.specs.Settings.{base_figure, is_increment};
+ghost use Rattle.rules.specs.Messages.{length_of, message_form};
+ghost use Rattle.rules.specs.Records.{cause_number};
+ghost use Rattle.rules.specs.Prices.{shown_size, displayed_price, weighed, near_net, better, better_of, reaches};
+ghost use Rattle.rules.specs.Standing.{verdict_number};
+ghost use Rattle.rules.specs.Refusals.{decoded_number};
 
 use rules::{Cause, Complex, Decoded, Listed, Message, Regular, Venue, Verdict};
 
 // The venue with no orders, all series open and no away prices.
 pub fn fresh() -> Venue
-    ensures { result ≡ freshVenue }
+    ensures { result ≡ fresh_venue }
 {
     let regular = rules::NO_REGULAR;
     let complex = rules::NO_COMPLEX;
@@ -49,7 +49,7 @@ pub fn opposite_of(side: u8) -> u8
 
 // A figure of edition 0: 0 to 7 is the increment of that series, 8 the percentage.
 pub fn base_figure(figure: u8) -> u8
-    ensures { result ≡ baseFigure figure }
+    ensures { result ≡ base_figure figure }
 {
     if figure < 6 {
         return 5;
@@ -62,7 +62,7 @@ pub fn base_figure(figure: u8) -> u8
 
 // A legging order's displayed price: its own price, rounded down (buy) or up (sell) to the increment of its series.
 pub fn displayed_price(increment: u8, side: u8, price: u32) -> u64
-    ensures { result ≡ displayedPrice increment side price }
+    ensures { result ≡ displayed_price increment side price }
 {
     if increment == 0 {
         return 0;
@@ -77,7 +77,7 @@ pub fn displayed_price(increment: u8, side: u8, price: u32) -> u64
 
 // The legging place of a series and side.
 pub fn place_of(series: u8, side: u8) -> usize
-    ensures { result ≡ placeOf series side }
+    ensures { result ≡ place_of series side }
 {
     2 * (series as usize) + (side as usize)
 }
@@ -94,7 +94,7 @@ pub fn lesser(a: u32, b: u32) -> u32
 
 // What an order shows: what is left of it without its reserve.
 pub fn shown_size(o: Regular) -> u32
-    ensures { result ≡ shownSize o }
+    ensures { result ≡ shown_size o }
 {
     if o.quantity < o.reserve {
         return 0;
@@ -112,7 +112,7 @@ pub fn limit_of(c: Complex) -> i64
 
 // Sign × price of a leg.
 pub fn sign_times_price(side: u8, price: u32) -> i64
-    ensures { (result ≡ signTimes side (pos price)) × (nat_abs result ≤ 4294967295) }
+    ensures { (result ≡ sign_times side (pos price)) × (nat_abs result ≤ 4294967295) }
 {
     if side == 0 {
         return price as i64;
@@ -143,7 +143,7 @@ pub fn net_of(ratio1: u8, side1: u8, a: u32, ratio2: u8, side2: u8, b: u32) -> i
 // The net t is within some percent of the net o of the market bests: 100 t ≤ 100 o + percent |o|.
 pub fn near_net(percent: u8, o: i64, t: i64) -> bool
     requires { (nat_abs o ≤ 2190433320450) × (nat_abs t ≤ 2190433320450) }
-    ensures { result ≡ nearNet percent o t }
+    ensures { result ≡ near_net percent o t }
 {
     let x = percent as i64;
     if o < 0 {
@@ -154,7 +154,7 @@ pub fn near_net(percent: u8, o: i64, t: i64) -> bool
 
 // A number for each case of Message, in their order. It is not the kind in the bytes: an order of kind 9 is 1 here, and a limited sweep, kind 11, is 9.
 pub fn message_form(m: Message) -> u16
-    ensures { result ≡ messageForm m }
+    ensures { result ≡ message_form m }
 {
     match m {
         Message::Order(_) => 1,
@@ -214,7 +214,7 @@ pub fn length_of(kind: u16) -> u16
 
 // A cause's place among the causes, counted from 1. It is the cause's number, except that the last cause, at place 9, has number 10.
 fn cause_order(cause: Cause) -> u8
-    ensures { (if eqb result 9 then 10 else result) ≡ causeNumber cause }
+    ensures { (if eqb result 9 then 10 else result) ≡ cause_number cause }
 {
     match cause {
         Cause::Worse => 1,
@@ -231,7 +231,7 @@ fn cause_order(cause: Cause) -> u8
 
 // A cause's number, in two steps, since a compiler turns numbers that do not rise by one into a table.
 pub fn cause_number(cause: Cause) -> u8
-    ensures { result ≡ causeNumber cause }
+    ensures { result ≡ cause_number cause }
 {
     let n = cause_order(cause);
     if n == 9 {
@@ -242,7 +242,7 @@ pub fn cause_number(cause: Cause) -> u8
 
 // A verdict's number: 0 where the order stands, else the cause's number.
 pub fn verdict_number(verdict: Verdict) -> u8
-    ensures { result ≡ verdictNumber verdict }
+    ensures { result ≡ verdict_number verdict }
 {
     match verdict {
         Verdict::Stands => 0,
@@ -252,7 +252,7 @@ pub fn verdict_number(verdict: Verdict) -> u8
 
 // The refusal, 1 to 4 or 14, that a message's bytes meet; 0 if none.
 pub fn decoded_number(decoded: Decoded) -> u8
-    ensures { result ≡ decodedNumber decoded }
+    ensures { result ≡ decoded_number decoded }
 {
     match decoded {
         Decoded::Taken(_) => 0,
@@ -294,7 +294,7 @@ pub fn is_better(side: u8, a: u32, b: u32) -> bool
 
 // The better of two prices.
 pub fn better_of(side: u8, a: u32, b: u32) -> u32
-    ensures { result ≡ betterOf side a b }
+    ensures { result ≡ better_of side a b }
 {
     if is_better(side, a, b) {
         return a;
@@ -314,7 +314,7 @@ pub fn reaches_price(side: u8, p: u32, q: u32) -> bool
 
 // A number is a price: 1 to 100000.
 pub fn is_price(n: u32) -> bool
-    ensures { result ≡ isPrice n }
+    ensures { result ≡ is_price n }
 {
     if n == 0 {
         return false;
@@ -324,7 +324,7 @@ pub fn is_price(n: u32) -> bool
 
 // A number is a quantity: 1 to 10000.
 pub fn is_quantity(n: u32) -> bool
-    ensures { result ≡ isQuantity n }
+    ensures { result ≡ is_quantity n }
 {
     if n == 0 {
         return false;
@@ -334,7 +334,7 @@ pub fn is_quantity(n: u32) -> bool
 
 // A number is a ratio: 1 to 3.
 pub fn is_ratio(n: u8) -> bool
-    ensures { result ≡ isRatio n }
+    ensures { result ≡ is_ratio n }
 {
     if n == 0 {
         return false;
@@ -344,7 +344,7 @@ pub fn is_ratio(n: u8) -> bool
 
 // A number is an increment: 1, 5 or 10.
 pub fn is_increment(n: u8) -> bool
-    ensures { result ≡ isIncrement n }
+    ensures { result ≡ is_increment n }
 {
     if n == 1 {
         return true;
@@ -357,7 +357,7 @@ pub fn is_increment(n: u8) -> bool
 
 // Both ratios of a complex order are 1: it is of kind 2. Every other complex order is of kind 10.
 pub fn is_one_to_one(c: Complex) -> bool
-    ensures { result ≡ oneToOne c }
+    ensures { result ≡ one_to_one c }
 {
     if c.ratio1 != 1 {
         return false;

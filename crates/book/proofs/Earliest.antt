@@ -10,25 +10,25 @@ use borrow.Author.Tests.{eqb-true, eq-eqb, ne_eqb, le-ltb}
 use lib.Dec.{eqb}
 use lib.ListN.{length, get_or}
 use Rattle.rules.specs.declared.Regular.{Regular}
-use Rattle.rules.specs.Base.{if◌then◌else◌, held, Choice, nobody, picked, ranked, firstFrom, first, placeWhere}
-use Rattle.rules.specs.Words.{opposite, noRegular, regularAt, earlier, isRegularOf}
-use Rattle.rules.specs.Complex.{restsRegular, regularPlace}
-use Rattle.rules.specs.Prices.{better, reaches, restsAt, shownSize, showsAt, showsFor, bestIn}
-use Rattle.rules.specs.Order.{isMet, shownThenId, priceThenId}
-use Rattle.rules.specs.Generation.{reachesAny}
+use Rattle.rules.specs.Base.{if◌then◌else◌, held, Choice, nobody, picked, ranked, first_from, first, place_where}
+use Rattle.rules.specs.Words.{opposite, no_regular, regular_at, earlier, is_regular_of}
+use Rattle.rules.specs.Complex.{rests_regular, regular_place}
+use Rattle.rules.specs.Prices.{better, reaches, rests_at, shown_size, shows_at, shows_for, best_in}
+use Rattle.rules.specs.Order.{is_met, shown_then_id, price_then_id}
+use Rattle.rules.specs.Generation.{reaches_any}
 use Rattle.rules.proofs.Tests.{and_l, and_r, and-false}
 use Rattle.rules.proofs.Better.{is_false, best-best, better-total}
 use Rattle.rules.proofs.Sizes.{shows-held, shows-rests, rests-shows, rests-held, rests-side, best-is}
 use Rattle.rules.proofs.Meeting.{both-show}
 use Rattle.rules.proofs.Filling.{held_fits}
 use Rattle.rules.proofs.Finding.{where-passes, where-fits}
-use Rattle.places.specs.Layout.{regularIn, regularsUsed, venueOf, Orderly, Right, Dense}
+use Rattle.places.specs.Layout.{regular_in, regulars_used, venue_of, Orderly, Right, Dense}
 use Rattle.places.proofs.Parts.{regulars-few}
 use Rattle.places.proofs.Tables.{used-at, used-free}
 use Rattle.book.specs.declared.Pick.TheVariants as pick
 use Rattle.book.specs.declared.Found.TheVariants as found
-use Rattle.book.specs.Picks.{pick_of, regularFound}
-use Rattle.book.proofs.FirstPlace.{where-first, foundIn, found_at, found_none, regular-free}
+use Rattle.book.specs.Picks.{pick_of, regular_found}
+use Rattle.book.proofs.FirstPlace.{where-first, found_in, found_at, found_none, regular-free}
 use Rattle.book.proofs.PicksLaws.{for-free}
 
 -- The pick by its place -----------------------------------------------------------------------
@@ -43,10 +43,10 @@ module _ {A : Type 0} (d : A) (candidate : A → Bool) (before : A → A → Boo
 
   -- a candidate before which none of l ranks stays the pick
   stays : (n : ℕ) (a : A) (m : ℕ) (l : List A) → ((j : ℕ) → candidate (get_or l j d) ≡ true → before (get_or l j d) a ≡ false) →
-      ranked before n a (firstFrom candidate before m l) ≡ picked n a
-  unfolding ranked firstFrom
+      ranked before n a (first_from candidate before m l) ≡ picked n a
+  unfolding ranked first_from
   stays n a m [] h = refl
-  stays n a m (b ∷ l) h = go (candidate b) refl (firstFrom candidate before (suc m) l) (stays n a (suc m) l (λ j q. h (suc j) q))
+  stays n a m (b ∷ l) h = go (candidate b) refl (first_from candidate before (suc m) l) (stays n a (suc m) l (λ j q. h (suc j) q))
     where
       two : (t : Bool) (j : ℕ) (c : A) → before b a ≡ false → ranked before n a (picked j c) ≡ picked n a → ranked before n a (if t then picked j c else picked m b) ≡ picked n a
       two true j c e g = g
@@ -60,8 +60,8 @@ module _ {A : Type 0} (d : A) (candidate : A → Bool) (before : A → A → Boo
       go true e x g = onto x (h 0 e) g
       go false e x g = g
 
-  foremost-from : (n : ℕ) (l : List A) (i : ℕ) → Foremost l i → firstFrom candidate before n l ≡ picked (n + i) (get_or l i d)
-  unfolding ranked firstFrom
+  foremost-from : (n : ℕ) (l : List A) (i : ℕ) → Foremost l i → first_from candidate before n l ≡ picked (n + i) (get_or l i d)
+  unfolding ranked first_from
   foremost-from n [] i f = let z = f.fits in absurd (omega arith)
   foremost-from n (a ∷ l) zero f =
       let e : n + 0 ≡ n = omega arith in
@@ -69,7 +69,7 @@ module _ {A : Type 0} (d : A) (candidate : A → Bool) (before : A → A → Boo
   foremost-from n (a ∷ l) (suc i) f =
       let e : suc n + i ≡ n + suc i = omega arith in
       let z = f.fits in
-      let p : firstFrom candidate before (suc n) l ≡ picked (n + suc i) (get_or l i d) =
+      let p : first_from candidate before (suc n) l ≡ picked (n + suc i) (get_or l i d) =
       foremost-from (suc n) l i
       (record { fits = omega arith; is = f.is; early = λ j q. f.early (suc j) (omega arith); late = λ j q. f.late (suc j) (omega arith) })
       ∙ ap (λ (k : ℕ). picked k (get_or l i d)) e in
@@ -85,180 +85,180 @@ module _ {A : Type 0} (d : A) (candidate : A → Bool) (before : A → A → Boo
   foremost l i f = foremost-from 0 l i f ∙ ap (λ (k : ℕ). picked k (get_or l i d)) (zero-add i)
 
   -- where there is no candidate, nobody is picked
-  none-picked : (n : ℕ) (l : List A) → ((j : ℕ) → candidate (get_or l j d) ≡ false) → firstFrom candidate before n l ≡ nobody
-  unfolding firstFrom
+  none-picked : (n : ℕ) (l : List A) → ((j : ℕ) → candidate (get_or l j d) ≡ false) → first_from candidate before n l ≡ nobody
+  unfolding first_from
   none-picked n [] h = refl
   none-picked n (a ∷ l) h = rw (h 0) (none-picked (suc n) l (λ j. h (suc j)))
 
 -- Orders at one price -------------------------------------------------------------------------
 
-for-shows : (s d p : ℕ) (o : Regular) → showsFor s d p o ≡ true → showsAt s d o ≡ true
-unfolding showsFor
-for-shows s d p o h = and_l (showsAt s d o) _ h
+for-shows : (s d p : ℕ) (o : Regular) → shows_for s d p o ≡ true → shows_at s d o ≡ true
+unfolding shows_for
+for-shows s d p o h = and_l (shows_at s d o) _ h
 
-for-price : (s d p : ℕ) (o : Regular) → showsFor s d p o ≡ true → o.price ≡ p
-unfolding showsFor
-for-price s d p o h = eqb-true o.price p (and_r (showsAt s d o) _ h)
+for-price : (s d p : ℕ) (o : Regular) → shows_for s d p o ≡ true → o.price ≡ p
+unfolding shows_for
+for-price s d p o h = eqb-true o.price p (and_r (shows_at s d o) _ h)
 
-for-in : (s d p : ℕ) (o : Regular) → showsAt s d o ≡ true → o.price ≡ p → showsFor s d p o ≡ true
-unfolding showsFor
+for-in : (s d p : ℕ) (o : Regular) → shows_at s d o ≡ true → o.price ≡ p → shows_for s d p o ≡ true
+unfolding shows_for
 for-in s d p o h e = rw (h, eq-eqb o.price p e)
 
 module _ (s d p : ℕ) (os : List Regular) (orders : Orderly os) (i : ℕ)
-    (shows : showsFor s d p (get_or os i noRegular) ≡ true) (none : (j : ℕ) → j < i → showsFor s d p (get_or os j noRegular) ≡ false) where
+    (shows : shows_for s d p (get_or os i no_regular) ≡ true) (none : (j : ℕ) → j < i → shows_for s d p (get_or os j no_regular) ≡ false) where
   -- the first of the list at a price is the earliest
-  earliest-at : first (showsFor s d p) earlier os ≡ picked i (get_or os i noRegular)
+  earliest-at : first (shows_for s d p) earlier os ≡ picked i (get_or os i no_regular)
   unfolding earlier
   earliest-at =
-      foremost noRegular (showsFor s d p) earlier os i
+      foremost no_regular (shows_for s d p) earlier os i
       (record {
         fits = held_fits os i (holds i shows);
         is = shows;
         early = λ j q h. absurd (true≢false (sym h ∙ none j q));
-        late = λ j q h. let z = orders.rises i j q (holds i shows) (holds j h) in le-ltb (get_or os j noRegular).id (get_or os i noRegular).id (omega arith);
+        late = λ j q h. let z = orders.rises i j q (holds i shows) (holds j h) in le-ltb (get_or os j no_regular).id (get_or os i no_regular).id (omega arith);
       })
     where
-      holds : (j : ℕ) → showsFor s d p (get_or os j noRegular) ≡ true → held (get_or os j noRegular).quantity ≡ true
-      holds j h = shows-held s d (get_or os j noRegular) (for-shows s d p (get_or os j noRegular) h)
+      holds : (j : ℕ) → shows_for s d p (get_or os j no_regular) ≡ true → held (get_or os j no_regular).quantity ≡ true
+      holds j h = shows-held s d (get_or os j no_regular) (for-shows s d p (get_or os j no_regular) h)
 
 -- Orders met ----------------------------------------------------------------------------------
 
 -- where every order shows some size
-module _ (s d p : ℕ) (os : List Regular) (orders : Orderly os) (some : (i : ℕ) → held (get_or os i noRegular).quantity ≡ true → held (shownSize (get_or os i noRegular)) ≡ true) where
+module _ (s d p : ℕ) (os : List Regular) (orders : Orderly os) (some : (i : ℕ) → held (get_or os i no_regular).quantity ≡ true → held (shown_size (get_or os i no_regular)) ≡ true) where
   abbrev best : ℕ
-  best = bestIn s (opposite d) os
+  best = best_in s (opposite d) os
 
   abbrev at : ℕ → Regular
-  at i = get_or os i noRegular
+  at i = get_or os i no_regular
 
   -- an order that is met shows at the other side
-  met-rests : (j : ℕ) → isMet s d p (at j) ≡ true → restsAt s (opposite d) (at j) ≡ true
-  unfolding isMet
-  met-rests j h = and_l (restsAt s (opposite d) (at j)) _ h
+  met-rests : (j : ℕ) → is_met s d p (at j) ≡ true → rests_at s (opposite d) (at j) ≡ true
+  unfolding is_met
+  met-rests j h = and_l (rests_at s (opposite d) (at j)) _ h
 
-  met-held : (j : ℕ) → isMet s d p (at j) ≡ true → held (at j).quantity ≡ true
+  met-held : (j : ℕ) → is_met s d p (at j) ≡ true → held (at j).quantity ≡ true
   met-held j h = rests-held s (opposite d) (at j) (met-rests j h)
 
-  met-shows : (j : ℕ) → isMet s d p (at j) ≡ true → showsAt s (opposite d) (at j) ≡ true
+  met-shows : (j : ℕ) → is_met s d p (at j) ≡ true → shows_at s (opposite d) (at j) ≡ true
   met-shows j h = rests-shows s (opposite d) (at j) (some j (met-held j h)) (met-rests j h)
 
   -- no price that is met is better than the best
-  not-better : (j : ℕ) → isMet s d p (at j) ≡ true → better (opposite d) (at j).price best ≡ false
+  not-better : (j : ℕ) → is_met s d p (at j) ≡ true → better (opposite d) (at j).price best ≡ false
   not-better j h = is_false _ (best-best s (opposite d) os j (met-shows j h))
 
   -- where the best price is reached
-  module _ (on : reachesAny d p best ≡ true) where
+  module _ (on : reaches_any d p best ≡ true) where
     -- an order at the best price is met
-    best-met : (o : Regular) → showsFor s (opposite d) best o ≡ true → isMet s d p o ≡ true
-    unfolding isMet reachesAny
+    best-met : (o : Regular) → shows_for s (opposite d) best o ≡ true → is_met s d p o ≡ true
+    unfolding is_met reaches_any
     best-met o h =
         rw (shows-rests s (opposite d) o (for-shows s (opposite d) best o h), for-price s (opposite d) best o h)
         (and_r (held best) (reaches d p best) on)
 
     -- the first of the list at the best price of the other side is met first
-    met_at : (i : ℕ) → showsFor s (opposite d) best (at i) ≡ true → ((j : ℕ) → j < i → showsFor s (opposite d) best (at j) ≡ false) →
-        first (isMet s d p) priceThenId os ≡ picked i (at i)
-    unfolding priceThenId earlier
+    met_at : (i : ℕ) → shows_for s (opposite d) best (at i) ≡ true → ((j : ℕ) → j < i → shows_for s (opposite d) best (at j) ≡ false) →
+        first (is_met s d p) price_then_id os ≡ picked i (at i)
+    unfolding price_then_id earlier
     met_at i shows none =
-        foremost noRegular (isMet s d p) priceThenId os i (record { fits = held_fits os i (met-held i is); is = is; early = early; late = late })
+        foremost no_regular (is_met s d p) price_then_id os i (record { fits = held_fits os i (met-held i is); is = is; early = early; late = late })
       where
-        is : isMet s d p (at i) ≡ true
+        is : is_met s d p (at i) ≡ true
         is = best-met (at i) shows
 
         price : (at i).price ≡ best
         price = for-price s (opposite d) best (at i) shows
 
-        side : (j : ℕ) → isMet s d p (at j) ≡ true → (at j).side ≡ opposite d
+        side : (j : ℕ) → is_met s d p (at j) ≡ true → (at j).side ≡ opposite d
         side j h = rests-side s (opposite d) (at j) (met-rests j h)
 
-        worse : (j : ℕ) → j < i → isMet s d p (at j) ≡ true → (t : Bool) → better (opposite d) best (at j).price ≡ t → better (opposite d) best (at j).price ≡ true
+        worse : (j : ℕ) → j < i → is_met s d p (at j) ≡ true → (t : Bool) → better (opposite d) best (at j).price ≡ t → better (opposite d) best (at j).price ≡ true
         worse j q h true e = e
         worse j q h false e =
             let z : (at j).price ≡ best = better-total (opposite d) (at j).price best (not-better j h) e in
             absurd (true≢false (sym (for-in s (opposite d) best (at j) (met-shows j h) z) ∙ none j q))
 
-        early : (j : ℕ) → j < i → isMet s d p (at j) ≡ true → (better (at i).side (at i).price (at j).price || (eqb (at i).price (at j).price && shownThenId (at i) (at j))) ≡ true
+        early : (j : ℕ) → j < i → is_met s d p (at j) ≡ true → (better (at i).side (at i).price (at j).price || (eqb (at i).price (at j).price && shown_then_id (at i) (at j))) ≡ true
         early j q h = rw (side i is, price, worse j q h (better (opposite d) best (at j).price) refl)
 
-        later : (j : ℕ) → i < j → isMet s d p (at j) ≡ true → shownThenId (at j) (at i) ≡ false
+        later : (j : ℕ) → i < j → is_met s d p (at j) ≡ true → shown_then_id (at j) (at i) ≡ false
         later j q h =
             let z = orders.rises i j q (met-held i is) (met-held j h) in
             both-show (at j) (at i) (some j (met-held j h)) (some i (met-held i is)) ∙ le-ltb (at j).id (at i).id (omega arith)
 
-        late : (j : ℕ) → i < j → isMet s d p (at j) ≡ true → (better (at j).side (at j).price (at i).price || (eqb (at j).price (at i).price && shownThenId (at j) (at i))) ≡ false
+        late : (j : ℕ) → i < j → is_met s d p (at j) ≡ true → (better (at j).side (at j).price (at i).price || (eqb (at j).price (at i).price && shown_then_id (at j) (at i))) ≡ false
         late j q h = rw (side j h, price, not-better j h, later j q h, and-false)
 
     -- so who is met first is the earliest at that price
-    pub met-earliest : first (isMet s d p) priceThenId os ≡ first (showsFor s (opposite d) best) earlier os
-    unfolding reachesAny
+    pub met-earliest : first (is_met s d p) price_then_id os ≡ first (shows_for s (opposite d) best) earlier os
+    unfolding reaches_any
     met-earliest =
         let a = best-is s (opposite d) os (and_l (held best) (reaches d p best) on) in
-        let test = showsFor s (opposite d) best in
+        let test = shows_for s (opposite d) best in
         let f = held_fits os a.at (shows-held s (opposite d) (at a.at) a.shows) in
-        let w = where-passes noRegular test os (where-fits noRegular test os a.at f (for-in s (opposite d) best (at a.at) a.shows a.price)) in
-        met_at (placeWhere test os) w (where-first test noRegular os)
-        ∙ sym (earliest-at s (opposite d) best os orders (placeWhere test os) w (where-first test noRegular os))
+        let w = where-passes no_regular test os (where-fits no_regular test os a.at f (for-in s (opposite d) best (at a.at) a.shows a.price)) in
+        met_at (place_where test os) w (where-first test no_regular os)
+        ∙ sym (earliest-at s (opposite d) best os orders (place_where test os) w (where-first test no_regular os))
 
 -- In the numbers ------------------------------------------------------------------------------
 
 module _ (b : List ℕ) where
   -- a place in use
-  regular-there : (i : ℕ) → i < regularsUsed b → get_or (venueOf b).regular i noRegular ≡ regularIn b i
-  unfolding venueOf
-  regular-there i h = used-at (regularIn b) noRegular (regularsUsed b) 128 i h
+  regular-there : (i : ℕ) → i < regulars_used b → get_or (venue_of b).regular i no_regular ≡ regular_in b i
+  unfolding venue_of
+  regular-there i h = used-at (regular_in b) no_regular (regulars_used b) 128 i h
 
   -- a test that free places do not pass is decided by the places in use
-  used-none : (f : Regular → Bool) → f noRegular ≡ false → ((j : ℕ) → j < regularsUsed b → f (regularIn b j) ≡ false) → (j : ℕ) → f (get_or (venueOf b).regular j noRegular) ≡ false
-  unfolding venueOf
+  used-none : (f : Regular → Bool) → f no_regular ≡ false → ((j : ℕ) → j < regulars_used b → f (regular_in b j) ≡ false) → (j : ℕ) → f (get_or (venue_of b).regular j no_regular) ≡ false
+  unfolding venue_of
   used-none f off none j =
-      elim (dec_lt j (regularsUsed b)) [
+      elim (dec_lt j (regulars_used b)) [
         | yes q ↦ ap f (regular-there j q) ∙ none j q
-        | no q ↦ ap f (used-free (regularIn b) noRegular (regularsUsed b) 128 j (omega arith)) ∙ off
+        | no q ↦ ap f (used-free (regular_in b) no_regular (regulars_used b) 128 j (omega arith)) ∙ off
       ]
 
   -- who is taken first
   module _ (right : Right b) (s d p : ℕ) where
-    pub for-at : (i : ℕ) (o : Regular) → i < regularsUsed b → o ≡ regularIn b i → showsFor s d p o ≡ true → ((j : ℕ) → j < i → showsFor s d p (regularIn b j) ≡ false) →
-        pick.At i o ≡ pick_of (first (showsFor s d p) earlier (venueOf b).regular)
+    pub for-at : (i : ℕ) (o : Regular) → i < regulars_used b → o ≡ regular_in b i → shows_for s d p o ≡ true → ((j : ℕ) → j < i → shows_for s d p (regular_in b j) ≡ false) →
+        pick.At i o ≡ pick_of (first (shows_for s d p) earlier (venue_of b).regular)
     unfolding pick_of
     for-at i o h e shows none =
         let w = regular-there i h in
         ap (pick.At i) (e ∙ sym w)
-        ∙ sym (ap pick_of (earliest-at s d p (venueOf b).regular right.orders i (ap (showsFor s d p) (w ∙ sym e) ∙ shows)
-        (λ j q. ap (showsFor s d p) (regular-there j (omega arith)) ∙ none j q)))
+        ∙ sym (ap pick_of (earliest-at s d p (venue_of b).regular right.orders i (ap (shows_for s d p) (w ∙ sym e) ∙ shows)
+        (λ j q. ap (shows_for s d p) (regular-there j (omega arith)) ∙ none j q)))
 
-    pub for-none : ((j : ℕ) → j < regularsUsed b → showsFor s d p (regularIn b j) ≡ false) → pick.Nobody ≡ pick_of (first (showsFor s d p) earlier (venueOf b).regular)
+    pub for-none : ((j : ℕ) → j < regulars_used b → shows_for s d p (regular_in b j) ≡ false) → pick.Nobody ≡ pick_of (first (shows_for s d p) earlier (venue_of b).regular)
     unfolding pick_of
-    for-none none = sym (ap pick_of (none-picked noRegular (showsFor s d p) earlier 0 (venueOf b).regular (used-none (showsFor s d p) (for-free s d p) none)))
+    for-none none = sym (ap pick_of (none-picked no_regular (shows_for s d p) earlier 0 (venue_of b).regular (used-none (shows_for s d p) (for-free s d p) none)))
 
   -- where an id stands, if every place in use is held
   module _ (dense : Dense b) (id : ℕ) where
-    holds-used : (i : ℕ) → i < regularsUsed b → held (regularIn b i).quantity ≡ true
+    holds-used : (i : ℕ) → i < regulars_used b → held (regular_in b i).quantity ≡ true
     holds-used i h = dense.regulars i h
 
-    ids-rise : (i j : ℕ) → i < j → j < regularsUsed b → (regularIn b i).id < (regularIn b j).id
+    ids-rise : (i j : ℕ) → i < j → j < regulars_used b → (regular_in b i).id < (regular_in b j).id
     ids-rise i j q h =
         let x = regular-there i (omega arith) in
         let y = regular-there j h in
         rw (x, y) at (dense.right.orders.rises i j q (rw x (holds-used i (omega arith))) (rw y (holds-used j h)))
 
-    other-id : (i : ℕ) → ((regularIn b i).id ≡ id → ⊥) → isRegularOf id (regularIn b i) ≡ false
-    unfolding isRegularOf
-    other-id i n = rw (ne_eqb (regularIn b i).id id n, and-false)
+    other-id : (i : ℕ) → ((regular_in b i).id ≡ id → ⊥) → is_regular_of id (regular_in b i) ≡ false
+    unfolding is_regular_of
+    other-id i n = rw (ne_eqb (regular_in b i).id id n, and-false)
 
     -- the ids before a lower one are lower, and those after a higher one are higher
-    pub lower-before : (i : ℕ) → i < regularsUsed b → (regularIn b i).id < id → (j : ℕ) → j < i + 1 → (regularIn b j).id < id
+    pub lower-before : (i : ℕ) → i < regulars_used b → (regular_in b i).id < id → (j : ℕ) → j < i + 1 → (regular_in b j).id < id
     lower-before i h w j q = elim (dec_lt j i) [ yes r ↦ (let z = ids-rise j i r h in omega arith) | no r ↦ (let e : j ≡ i = omega arith in rw e w) ]
 
-    pub higher-after : (i : ℕ) → id < (regularIn b i).id → (j : ℕ) → i ≤ j → j < regularsUsed b → id < (regularIn b j).id
+    pub higher-after : (i : ℕ) → id < (regular_in b i).id → (j : ℕ) → i ≤ j → j < regulars_used b → id < (regular_in b j).id
     higher-after i w j q h = elim (dec_lt i j) [ yes r ↦ (let z = ids-rise i j r h in omega arith) | no r ↦ (let e : j ≡ i = omega arith in rw e w) ]
 
-    pub id-found : (i : ℕ) → i < regularsUsed b → (regularIn b i).id ≡ id → found.At i ≡ regularFound (venueOf b) id
-    unfolding regularFound restsRegular regularPlace regularAt venueOf foundIn isRegularOf
+    pub id-found : (i : ℕ) → i < regulars_used b → (regular_in b i).id ≡ id → found.At i ≡ regular_found (venue_of b) id
+    unfolding regular_found rests_regular regular_place regular_at venue_of found_in is_regular_of
     id-found i h e =
-        found_at (isRegularOf id) noRegular (regular-free id) (regularIn b) (regularsUsed b) 128 (regulars-few b) i h
-        (rw (holds-used i h, eq-eqb (regularIn b i).id id e)) (λ j q. other-id j (λ z. let w = ids-rise j i q h in omega arith))
+        found_at (is_regular_of id) no_regular (regular-free id) (regular_in b) (regulars_used b) 128 (regulars-few b) i h
+        (rw (holds-used i h, eq-eqb (regular_in b i).id id e)) (λ j q. other-id j (λ z. let w = ids-rise j i q h in omega arith))
 
-    pub id-none : ((j : ℕ) → j < regularsUsed b → (regularIn b j).id ≡ id → ⊥) → found.Nothing ≡ regularFound (venueOf b) id
-    unfolding regularFound restsRegular regularPlace regularAt venueOf foundIn
-    id-none none = found_none (isRegularOf id) noRegular (regular-free id) (regularIn b) (regularsUsed b) 128 (regulars-few b) (λ j q. other-id j (none j q))
+    pub id-none : ((j : ℕ) → j < regulars_used b → (regular_in b j).id ≡ id → ⊥) → found.Nothing ≡ regular_found (venue_of b) id
+    unfolding regular_found rests_regular regular_place regular_at venue_of found_in
+    id-none none = found_none (is_regular_of id) no_regular (regular-free id) (regular_in b) (regulars_used b) 128 (regulars-few b) (λ j q. other-id j (none j q))

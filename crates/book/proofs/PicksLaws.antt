@@ -11,12 +11,12 @@ use Rattle.rules.proofs.Better.{is_false}
 use lib.Dec.{eqb, ltb}
 use Rattle.rules.specs.declared.Regular.{Regular}
 use Rattle.rules.specs.Base.{held, Choice, nobody, picked, ranked, first}
-use Rattle.rules.specs.Words.{opposite, placeOf, noRegular, earlier}
-use Rattle.rules.specs.Prices.{better, reaches, restsAt, shownSize, showsAt, showsFor}
-use Rattle.rules.specs.Order.{isMet, shownThenId, priceThenId}
-use Rattle.rules.specs.Sound.{showsFully}
+use Rattle.rules.specs.Words.{opposite, place_of, no_regular, earlier}
+use Rattle.rules.specs.Prices.{better, reaches, rests_at, shown_size, shows_at, shows_for}
+use Rattle.rules.specs.Order.{is_met, shown_then_id, price_then_id}
+use Rattle.rules.specs.Sound.{shows_fully}
 use Rattle.rules.proofs.Picking.{At, Chosen, first-chosen}
-use Rattle.places.specs.Layout.{inUse, regularsUsed, regularIn, regularKey, venueOf}
+use Rattle.places.specs.Layout.{in_use, regulars_used, regular_in, regular_key, venue_of}
 use Rattle.places.proofs.Tables.{used-at, used-free}
 use Rattle.book.specs.declared.Pick.{Pick}
 use Rattle.book.specs.declared.Pick.TheVariants as pick
@@ -42,39 +42,39 @@ module _ {A : Type 0} (candidate : A → Bool) (before : A → A → Bool) (d : 
     pub at : f i ≡ a
     pub is : candidate a ≡ true
 
-  pub picked-used : (f : ℕ → A) (n all : ℕ) (i : ℕ) (a : A) → first candidate before (inUse f d n all) ≡ picked i a → Chooses f n i a
-  picked-used f n all i a e = go (first candidate before (inUse f d n all)) e (first-chosen d candidate before (inUse f d n all))
+  pub picked-used : (f : ℕ → A) (n all : ℕ) (i : ℕ) (a : A) → first candidate before (in_use f d n all) ≡ picked i a → Chooses f n i a
+  picked-used f n all i a e = go (first candidate before (in_use f d n all)) e (first-chosen d candidate before (in_use f d n all))
     where
-      inside : At d candidate (inUse f d n all) i a → Chooses f n i a
+      inside : At d candidate (in_use f d n all) i a → Chooses f n i a
       inside x = elim (dec_lt i n) [
         | yes q ↦ record { used = q; at = sym (used-at f d n all i q) ∙ x.at; is = x.is }
         | no q ↦ absurd (true≢false (sym x.is ∙ ap candidate (sym (sym (used-free f d n all i (omega arith)) ∙ x.at)) ∙ off))
       ]
 
-      go : (y : Choice A) → y ≡ picked i a → Chosen d candidate (inUse f d n all) y → Chooses f n i a
+      go : (y : Choice A) → y ≡ picked i a → Chosen d candidate (in_use f d n all) y → Chooses f n i a
       go nobody r x = let z : ◌≡◌ {A = ℕ} 0 1 = cc in absurd (omega arith)
       go (picked j b) r x = let p : j ≡ i = cc in let q : b ≡ a = cc in inside (rw (p, q) at x)
 
 -- of the regular book
-module _ (candidate : Regular → Bool) (before : Regular → Regular → Bool) (off : candidate noRegular ≡ false) (b : List ℕ) where
-  pub regular-used : (i : ℕ) (o : Regular) → first candidate before (venueOf b).regular ≡ picked i o → Chooses candidate before noRegular off (regularIn b) (regularsUsed b) i o
-  unfolding venueOf
-  regular-used i o e = picked-used candidate before noRegular off (regularIn b) (regularsUsed b) 128 i o e
+module _ (candidate : Regular → Bool) (before : Regular → Regular → Bool) (off : candidate no_regular ≡ false) (b : List ℕ) where
+  pub regular-used : (i : ℕ) (o : Regular) → first candidate before (venue_of b).regular ≡ picked i o → Chooses candidate before no_regular off (regular_in b) (regulars_used b) i o
+  unfolding venue_of
+  regular-used i o e = picked-used candidate before no_regular off (regular_in b) (regulars_used b) 128 i o e
 
 -- The candidates ------------------------------------------------------------------------------
 
-pub met-free : (s d p : ℕ) → isMet s d p noRegular ≡ false
-unfolding isMet restsAt
+pub met-free : (s d p : ℕ) → is_met s d p no_regular ≡ false
+unfolding is_met rests_at
 met-free s d p = refl
 
-pub for-free : (s d p : ℕ) → showsFor s d p noRegular ≡ false
-unfolding showsFor showsAt shownSize
+pub for-free : (s d p : ℕ) → shows_for s d p no_regular ≡ false
+unfolding shows_for shows_at shown_size
 for-free s d p = refl
 
 -- orders with another key are no candidates
-other_key : (t : Bool) (s d : ℕ) (o : Regular) → (regularKey o ≡ placeOf s d → ⊥) → (t && eqb o.series s && eqb o.side d) ≡ false
-unfolding regularKey
-other_key t s d o n = is_false _ (λ h. n (ap₂ placeOf (series h) (side h)))
+other_key : (t : Bool) (s d : ℕ) (o : Regular) → (regular_key o ≡ place_of s d → ⊥) → (t && eqb o.series s && eqb o.side d) ≡ false
+unfolding regular_key
+other_key t s d o n = is_false _ (λ h. n (ap₂ place_of (series h) (side h)))
   where
     side : (t && eqb o.series s && eqb o.side d) ≡ true → o.side ≡ d
     side h = eqb-true _ _ (and_r (t && eqb o.series s) (eqb o.side d) h)
@@ -82,17 +82,17 @@ other_key t s d o n = is_false _ (λ h. n (ap₂ placeOf (series h) (side h)))
     series : (t && eqb o.series s && eqb o.side d) ≡ true → o.series ≡ s
     series h = eqb-true _ _ (and_r t (eqb o.series s) (and_l (t && eqb o.series s) (eqb o.side d) h))
 
-pub for-key : (s d p : ℕ) (o : Regular) → (regularKey o ≡ placeOf s d → ⊥) → showsFor s d p o ≡ false
-unfolding showsFor showsAt
-for-key s d p o n = rw (other_key (held (shownSize o)) s d o n)
+pub for-key : (s d p : ℕ) (o : Regular) → (regular_key o ≡ place_of s d → ⊥) → shows_for s d p o ≡ false
+unfolding shows_for shows_at
+for-key s d p o n = rw (other_key (held (shown_size o)) s d o n)
 
-pub met-key : (s d p : ℕ) (o : Regular) → (regularKey o ≡ placeOf s (opposite d) → ⊥) → isMet s d p o ≡ false
-unfolding isMet restsAt
+pub met-key : (s d p : ℕ) (o : Regular) → (regular_key o ≡ place_of s (opposite d) → ⊥) → is_met s d p o ≡ false
+unfolding is_met rests_at
 met-key s d p o n = rw (other_key (held o.quantity) s (opposite d) o n)
 
 -- an order with a shown quantity that shows what it should shows some size
-pub fully-some : (o : Regular) → held o.quantity ≡ true → held o.display ≡ true → showsFully o ≡ true → held (shownSize o) ≡ true
-unfolding showsFully shownSize
+pub fully-some : (o : Regular) → held o.quantity ≡ true → held o.display ≡ true → shows_fully o ≡ true → held (shown_size o) ≡ true
+unfolding shows_fully shown_size
 fully-some o h q z =
     let a = held-pos o.quantity h in
     let b = held-pos o.display q in
@@ -100,89 +100,89 @@ fully-some o h q z =
     pos-held (o.quantity - o.reserve) (omega arith)
 
 -- an order that shows x, test by test
-module _ (s d p : ℕ) (o : Regular) (x : ℕ) (e : x ≡ shownSize o) where
-  pub shows-none : x ≡ 0 → false ≡ showsFor s d p o
-  unfolding showsFor showsAt
+module _ (s d p : ℕ) (o : Regular) (x : ℕ) (e : x ≡ shown_size o) where
+  pub shows-none : x ≡ 0 → false ≡ shows_for s d p o
+  unfolding shows_for shows_at
   shows-none h = rw (← e, h)
 
   module _ (h : x ≡ 0 → ⊥) where
-    pub shows-aside : (o.series ≡ s → ⊥) → false ≡ showsFor s d p o
-    unfolding showsFor showsAt
+    pub shows-aside : (o.series ≡ s → ⊥) → false ≡ shows_for s d p o
+    unfolding shows_for shows_at
     shows-aside q = rw (← e, ne_eqb x 0 h, ne_eqb o.series s q)
 
-    pub shows-facing : o.series ≡ s → (o.side ≡ d → ⊥) → false ≡ showsFor s d p o
-    unfolding showsFor showsAt
+    pub shows-facing : o.series ≡ s → (o.side ≡ d → ⊥) → false ≡ shows_for s d p o
+    unfolding shows_for shows_at
     shows-facing q r = rw (← e, ne_eqb x 0 h, eq-eqb o.series s q, ne_eqb o.side d r)
 
-    pub shows-price : o.series ≡ s → o.side ≡ d → eqb o.price p ≡ showsFor s d p o
-    unfolding showsFor showsAt
+    pub shows-price : o.series ≡ s → o.side ≡ d → eqb o.price p ≡ shows_for s d p o
+    unfolding shows_for shows_at
     shows-price q r = rw (← e, ne_eqb x 0 h, eq-eqb o.series s q, eq-eqb o.side d r)
 
 -- an order that is met, test by test
 module _ (s d p : ℕ) (o : Regular) where
-  pub met-none : o.quantity ≡ 0 → false ≡ isMet s d p o
-  unfolding isMet restsAt
+  pub met-none : o.quantity ≡ 0 → false ≡ is_met s d p o
+  unfolding is_met rests_at
   met-none h = rw (eq-eqb o.quantity 0 h)
 
   module _ (h : o.quantity ≡ 0 → ⊥) where
-    pub met-aside : (o.series ≡ s → ⊥) → false ≡ isMet s d p o
-    unfolding isMet restsAt
+    pub met-aside : (o.series ≡ s → ⊥) → false ≡ is_met s d p o
+    unfolding is_met rests_at
     met-aside q = rw (ne_eqb o.quantity 0 h, ne_eqb o.series s q)
 
     module _ (q : o.series ≡ s) (other : ℕ) (e : other ≡ opposite d) where
-      pub met-own : (o.side ≡ other → ⊥) → false ≡ isMet s d p o
-      unfolding isMet restsAt
+      pub met-own : (o.side ≡ other → ⊥) → false ≡ is_met s d p o
+      unfolding is_met rests_at
       met-own r = rw (ne_eqb o.quantity 0 h, eq-eqb o.series s q, ne_eqb o.side (opposite d) (λ z. r (z ∙ sym e)))
 
-      pub met-reached : o.side ≡ other → (t : Bool) → t ≡ reaches d p o.price → t ≡ isMet s d p o
-      unfolding isMet restsAt
+      pub met-reached : o.side ≡ other → (t : Bool) → t ≡ reaches d p o.price → t ≡ is_met s d p o
+      unfolding is_met rests_at
       met-reached r t w = rw (ne_eqb o.quantity 0 h, eq-eqb o.series s q, eq-eqb o.side (opposite d) (r ∙ e)) w
 
 -- Rank ----------------------------------------------------------------------------------------
 
 -- at one price, of orders that show x and y
-module _ (a m : Regular) (x y : ℕ) (ex : x ≡ shownSize a) (ey : y ≡ shownSize m) where
-  pub shown-alone : (x ≡ 0 → ⊥) → y ≡ 0 → true ≡ shownThenId a m
-  unfolding shownThenId
+module _ (a m : Regular) (x y : ℕ) (ex : x ≡ shown_size a) (ey : y ≡ shown_size m) where
+  pub shown-alone : (x ≡ 0 → ⊥) → y ≡ 0 → true ≡ shown_then_id a m
+  unfolding shown_then_id
   shown-alone p q = rw (← ex, ← ey, ne_eqb x 0 p, q)
 
-  pub shown-after : x ≡ 0 → (y ≡ 0 → ⊥) → false ≡ shownThenId a m
-  unfolding shownThenId
+  pub shown-after : x ≡ 0 → (y ≡ 0 → ⊥) → false ≡ shown_then_id a m
+  unfolding shown_then_id
   shown-after p q = rw (← ex, ← ey, p, ne_eqb y 0 q)
 
-  pub shown-neither : x ≡ 0 → y ≡ 0 → ltb a.id m.id ≡ shownThenId a m
-  unfolding shownThenId earlier
+  pub shown-neither : x ≡ 0 → y ≡ 0 → ltb a.id m.id ≡ shown_then_id a m
+  unfolding shown_then_id earlier
   shown-neither p q = rw (← ex, ← ey, p, q)
 
-  pub shown-both : (x ≡ 0 → ⊥) → (y ≡ 0 → ⊥) → ltb a.id m.id ≡ shownThenId a m
-  unfolding shownThenId earlier
+  pub shown-both : (x ≡ 0 → ⊥) → (y ≡ 0 → ⊥) → ltb a.id m.id ≡ shown_then_id a m
+  unfolding shown_then_id earlier
   shown-both p q = rw (← ex, ← ey, ne_eqb x 0 p, ne_eqb y 0 q)
 
 module _ (a m : Regular) where
-  pub rank-better : better a.side a.price m.price ≡ true → true ≡ priceThenId a m
-  unfolding priceThenId
+  pub rank-better : better a.side a.price m.price ≡ true → true ≡ price_then_id a m
+  unfolding price_then_id
   rank-better h = rw h
 
   module _ (h : better a.side a.price m.price ≡ false) where
-    pub rank-worse : (a.price ≡ m.price → ⊥) → false ≡ priceThenId a m
-    unfolding priceThenId
+    pub rank-worse : (a.price ≡ m.price → ⊥) → false ≡ price_then_id a m
+    unfolding price_then_id
     rank-worse n = rw (h, ne_eqb a.price m.price n)
 
-    pub rank_same : a.price ≡ m.price → (t : Bool) → t ≡ shownThenId a m → t ≡ priceThenId a m
-    unfolding priceThenId
+    pub rank_same : a.price ≡ m.price → (t : Bool) → t ≡ shown_then_id a m → t ≡ price_then_id a m
+    unfolding price_then_id
     rank_same q t e = rw (h, eq-eqb a.price m.price q) e
 
 -- beside what was picked before
 module _ (best : Pick) (n : ℕ) (m : Regular) where
-  pub pick-none : best ≡ pick.Nobody → (x : Choice Regular) → best ≡ pick_of x → pick.At n m ≡ pick_of (ranked priceThenId n m x)
+  pub pick-none : best ≡ pick.Nobody → (x : Choice Regular) → best ≡ pick_of x → pick.At n m ≡ pick_of (ranked price_then_id n m x)
   unfolding pick_of ranked
   pick-none e x p = rw (nobody-is x (sym e ∙ p))
 
   module _ (i : ℕ) (a : Regular) (e : best ≡ pick.At i a) (x : Choice Regular) (p : best ≡ pick_of x) where
-    pub pick-kept : priceThenId a m ≡ true → pick.At i a ≡ pick_of (ranked priceThenId n m x)
+    pub pick-kept : price_then_id a m ≡ true → pick.At i a ≡ pick_of (ranked price_then_id n m x)
     unfolding pick_of ranked
     pick-kept h = rw (picked-is x i a (sym e ∙ p), h)
 
-    pub pick-new : priceThenId a m ≡ false → pick.At n m ≡ pick_of (ranked priceThenId n m x)
+    pub pick-new : price_then_id a m ≡ false → pick.At n m ≡ pick_of (ranked price_then_id n m x)
     unfolding pick_of ranked
     pick-new h = rw (picked-is x i a (sym e ∙ p), h)

@@ -5,10 +5,10 @@ use mathlib.Core.List.{List}
 use Prim.Native.Nat.{ℕ, ◌-◌, ◌≤◌, ◌<◌}
 use native.Mathlib.Nat.{sub-zero}
 use Rattle.rules.specs.declared.Regular.{Regular}
-use Rattle.rules.specs.Base.{Choice, ranked, firstFrom, first}
-use Rattle.rules.specs.Words.{noRegular}
-use Rattle.rules.specs.Order.{isMet, priceThenId}
-use Rattle.places.specs.Layout.{upto, regularsUsed, regularIn, venueOf}
+use Rattle.rules.specs.Base.{Choice, ranked, first_from, first}
+use Rattle.rules.specs.Words.{no_regular}
+use Rattle.rules.specs.Order.{is_met, price_then_id}
+use Rattle.places.specs.Layout.{upto, regulars_used, regular_in, venue_of}
 use Rattle.levels.proofs.Scanning.{first-used, scan-start, scan-past, scan-join}
 use Rattle.book.specs.declared.Pick.{Pick}
 use Rattle.book.specs.declared.Pick.TheVariants as pick
@@ -16,29 +16,29 @@ use Rattle.book.specs.Picks.{pick_of}
 use Rattle.book.proofs.PicksLaws.{met-free}
 
 module _ (b : List ℕ) (s d p : ℕ) where
-  abbrev pub metFrom : ℕ → Choice Regular
-  metFrom i = firstFrom (isMet s d p) priceThenId i (upto (regularIn b) i (regularsUsed b - i))
+  abbrev pub met_from : ℕ → Choice Regular
+  met_from i = first_from (is_met s d p) price_then_id i (upto (regular_in b) i (regulars_used b - i))
 
-  pub met_start : (i : ℕ) → regularsUsed b ≤ i → pick.Nobody ≡ pick_of (metFrom i)
+  pub met_start : (i : ℕ) → regulars_used b ≤ i → pick.Nobody ≡ pick_of (met_from i)
   unfolding pick_of
-  met_start i h = ap pick_of (scan-start (isMet s d p) priceThenId (regularIn b) i (regularsUsed b) h)
+  met_start i h = ap pick_of (scan-start (is_met s d p) price_then_id (regular_in b) i (regulars_used b) h)
 
-  module _ (i : ℕ) (best : Pick) (q : 0 < i) (h : i ≤ regularsUsed b) (e : best ≡ pick_of (metFrom i)) where
+  module _ (i : ℕ) (best : Pick) (q : 0 < i) (h : i ≤ regulars_used b) (e : best ≡ pick_of (met_from i)) where
     -- one place more, that is not met
-    pub met-past : isMet s d p (regularIn b (i - 1)) ≡ false → best ≡ pick_of (metFrom (i - 1))
-    met-past n = e ∙ ap pick_of (scan-past (isMet s d p) priceThenId (regularIn b) i (regularsUsed b) q h (metFrom i) refl n)
+    pub met-past : is_met s d p (regular_in b (i - 1)) ≡ false → best ≡ pick_of (met_from (i - 1))
+    met-past n = e ∙ ap pick_of (scan-past (is_met s d p) price_then_id (regular_in b) i (regulars_used b) q h (met_from i) refl n)
 
     -- or is met
-    pub met-join : (m : Regular) → m ≡ regularIn b (i - 1) → isMet s d p m ≡ true →
-        (r : Pick) → ((x : Choice Regular) → best ≡ pick_of x → r ≡ pick_of (ranked priceThenId (i - 1) m x)) → r ≡ pick_of (metFrom (i - 1))
+    pub met-join : (m : Regular) → m ≡ regular_in b (i - 1) → is_met s d p m ≡ true →
+        (r : Pick) → ((x : Choice Regular) → best ≡ pick_of x → r ≡ pick_of (ranked price_then_id (i - 1) m x)) → r ≡ pick_of (met_from (i - 1))
     met-join m em n r w =
-        w (metFrom i) e
-        ∙ ap (λ (o : Regular). pick_of (ranked priceThenId (i - 1) o (metFrom i))) em
-        ∙ ap pick_of (scan-join (isMet s d p) priceThenId (regularIn b) i (regularsUsed b) q h (metFrom i) refl _ (ap (isMet s d p) (sym em) ∙ n) refl)
+        w (met_from i) e
+        ∙ ap (λ (o : Regular). pick_of (ranked price_then_id (i - 1) o (met_from i))) em
+        ∙ ap pick_of (scan-join (is_met s d p) price_then_id (regular_in b) i (regulars_used b) q h (met_from i) refl _ (ap (is_met s d p) (sym em) ∙ n) refl)
 
-  pub met_all : (i : ℕ) (best : Pick) → i ≡ 0 → best ≡ pick_of (metFrom i) → best ≡ pick_of (first (isMet s d p) priceThenId (venueOf b).regular)
-  unfolding venueOf
+  pub met_all : (i : ℕ) (best : Pick) → i ≡ 0 → best ≡ pick_of (met_from i) → best ≡ pick_of (first (is_met s d p) price_then_id (venue_of b).regular)
+  unfolding venue_of
   met_all i best z e =
-      e ∙ ap (λ (k : ℕ). pick_of (metFrom k)) z
-      ∙ ap (λ (k : ℕ). pick_of (firstFrom (isMet s d p) priceThenId 0 (upto (regularIn b) 0 k))) (sub-zero (regularsUsed b))
-      ∙ ap pick_of (first-used (isMet s d p) priceThenId (regularIn b) noRegular (regularsUsed b) 128 (met-free s d p))
+      e ∙ ap (λ (k : ℕ). pick_of (met_from k)) z
+      ∙ ap (λ (k : ℕ). pick_of (first_from (is_met s d p) price_then_id 0 (upto (regular_in b) 0 k))) (sub-zero (regulars_used b))
+      ∙ ap pick_of (first-used (is_met s d p) price_then_id (regular_in b) no_regular (regulars_used b) 128 (met-free s d p))

@@ -10,10 +10,10 @@ use lib.Dec.{ltb, leb, eqb}
 use lib.ListN.{get_or}
 use Rattle.rules.specs.declared.Regular.{Regular}
 use Rattle.rules.specs.Base.{if◌then◌else◌, held, Choice, nobody, picked, first}
-use Rattle.rules.specs.Words.{opposite, noRegular}
-use Rattle.rules.specs.Prices.{better, restsAt, reaches, shownSize, bestIn}
-use Rattle.rules.specs.Order.{isMet, priceThenId}
-use Rattle.rules.specs.Generation.{reachesAny}
+use Rattle.rules.specs.Words.{opposite, no_regular}
+use Rattle.rules.specs.Prices.{better, rests_at, reaches, shown_size, best_in}
+use Rattle.rules.specs.Order.{is_met, price_then_id}
+use Rattle.rules.specs.Generation.{reaches_any}
 use Rattle.rules.proofs.Tests.{and_l, and_r, held-pos, pos-held}
 use Rattle.rules.proofs.Better.{best-best}
 use Rattle.rules.proofs.Sizes.{rests-shows, rests-held}
@@ -21,8 +21,8 @@ use Rattle.rules.proofs.Picking.{Chosen, first-chosen}
 use Rattle.places.specs.Layout.{Orderly}
 
 -- a price that reaches q reaches what is not worse than q
-reaches-past : (d p q b : ℕ) → held q ≡ true → reaches d p q ≡ true → (better (opposite d) q b ≡ true → ⊥) → reachesAny d p b ≡ true
-unfolding reachesAny reaches better opposite
+reaches-past : (d p q b : ℕ) → held q ≡ true → reaches d p q ≡ true → (better (opposite d) q b ≡ true → ⊥) → reaches_any d p b ≡ true
+unfolding reaches_any reaches better opposite
 reaches-past d p q b h = go (ℕ_discrete d 0)
   where
     offers : leb q p ≡ true → ((held q && (not (held b) || ltb q b)) ≡ true → ⊥) → Dec (0 < b) → Dec (q < b) → (held b && leb b p) ≡ true
@@ -46,22 +46,22 @@ reaches-past d p q b h = go (ℕ_discrete d 0)
         let f : eqb (1 - d) 0 ≡ true = eq-eqb (1 - d) 0 (omega arith) in
         rw (ne_eqb d 0 e) (bids (rw (ne_eqb d 0 e) at r) (λ z. n (rw f z)) (dec_lt b q))
 
-module _ (s d p : ℕ) (os : List Regular) (in_order : Orderly os) (some : (i : ℕ) → held (get_or os i noRegular).quantity ≡ true → held (shownSize (get_or os i noRegular)) ≡ true)
-    (off : reachesAny d p (bestIn s (opposite d) os) ≡ false) where
-  not-met : (i : ℕ) → isMet s d p (get_or os i noRegular) ≡ true → ⊥
-  unfolding isMet
+module _ (s d p : ℕ) (os : List Regular) (in_order : Orderly os) (some : (i : ℕ) → held (get_or os i no_regular).quantity ≡ true → held (shown_size (get_or os i no_regular)) ≡ true)
+    (off : reaches_any d p (best_in s (opposite d) os) ≡ false) where
+  not-met : (i : ℕ) → is_met s d p (get_or os i no_regular) ≡ true → ⊥
+  unfolding is_met
   not-met i h =
-      let m = get_or os i noRegular in
-      let r : restsAt s (opposite d) m ≡ true = and_l (restsAt s (opposite d) m) (reaches d p m.price) h in
-      let t : reaches d p m.price ≡ true = and_r (restsAt s (opposite d) m) (reaches d p m.price) h in
+      let m = get_or os i no_regular in
+      let r : rests_at s (opposite d) m ≡ true = and_l (rests_at s (opposite d) m) (reaches d p m.price) h in
+      let t : reaches d p m.price ≡ true = and_r (rests_at s (opposite d) m) (reaches d p m.price) h in
       let q = rests-held s (opposite d) m r in
       true≢false
-      (sym (reaches-past d p m.price (bestIn s (opposite d) os) (in_order.priced i q) t
+      (sym (reaches-past d p m.price (best_in s (opposite d) os) (in_order.priced i q) t
       (best-best s (opposite d) os i (rests-shows s (opposite d) m (some i q) r))) ∙ off)
 
-  pub unmet : first (isMet s d p) priceThenId os ≡ nobody
-  unmet = go (first (isMet s d p) priceThenId os) (first-chosen noRegular (isMet s d p) priceThenId os)
+  pub unmet : first (is_met s d p) price_then_id os ≡ nobody
+  unmet = go (first (is_met s d p) price_then_id os) (first-chosen no_regular (is_met s d p) price_then_id os)
     where
-      go : (x : Choice Regular) → Chosen noRegular (isMet s d p) os x → x ≡ nobody
+      go : (x : Choice Regular) → Chosen no_regular (is_met s d p) os x → x ≡ nobody
       go nobody c = refl
       go (picked i m) c = absurd (not-met i (rw c.at c.is))

@@ -3,7 +3,7 @@ use Rattle.std.specs.Prelude.{ℕ}
 use Rattle.rules.specs.declared.Regular.{Regular}
 use Rattle.rules.specs.declared.Venue.{Venue}
 use Rattle.rules.specs.Base.{if◌then◌else◌, Choice, nobody, picked}
-use Rattle.rules.specs.Complex.{regularPlace, complexPlace, restsRegular, restsComplex}
+use Rattle.rules.specs.Complex.{regular_place, complex_place, rests_regular, rests_complex}
 use Rattle.book.specs.declared.Found.{Found}
 use Rattle.book.specs.declared.Found.TheVariants as found
 use Rattle.book.specs.declared.Pick.{Pick}
@@ -14,8 +14,8 @@ pick_of nobody = pick.Nobody
 pick_of (picked i o) = pick.At i o
 
 -- the place of the resting order with an id
-unfoldable pub regularFound : Venue → (id : ℕ) → Found
-regularFound v id = if restsRegular v id then found.At (regularPlace v id) else found.Nothing
+unfoldable pub regular_found : Venue → (id : ℕ) → Found
+regular_found v id = if rests_regular v id then found.At (regular_place v id) else found.Nothing
 
-unfoldable pub complexFound : Venue → (id : ℕ) → Found
-complexFound v id = if restsComplex v id then found.At (complexPlace v id) else found.Nothing
+unfoldable pub complex_found : Venue → (id : ℕ) → Found
+complex_found v id = if rests_complex v id then found.At (complex_place v id) else found.Nothing

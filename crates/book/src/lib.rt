@@ -5,10 +5,10 @@ ghost use Rattle.std.specs.Int.Count.{ones};
 ghost use Rattle.rules.specs.declared.Regular.{Regular};
 ghost use Rattle.rules.specs.Base.{Choice, ranked, first};
 ghost use Rattle.rules.specs.Words.{earlier};
-ghost use Rattle.rules.specs.Prices.{showsFor};
-ghost use Rattle.rules.specs.Order.{isMet, shownThenId, priceThenId};
-ghost use Rattle.places.specs.Layout.{size, venueOf};
-ghost use Rattle.book.specs.Picks.{pick_of, regularFound, complexFound};
+ghost use Rattle.rules.specs.Prices.{shows_for};
+ghost use Rattle.rules.specs.Order.{is_met, shown_then_id, price_then_id};
+ghost use Rattle.places.specs.Layout.{size, venue_of};
+ghost use Rattle.book.specs.Picks.{pick_of, regular_found, complex_found};
 ghost use Rattle.places.specs.Requirements.{RightNumbers, DenseNumbers, RightSeries, RightShown};
 
 use rules::Regular;
@@ -29,7 +29,7 @@ pub enum Found {
 
 // An order shows some size at a price of a side of a series.
 fn shows_for(o: Regular, series: u8, side: u8, price: u32) -> bool
-    ensures { result ≡ showsFor series side price o }
+    ensures { result ≡ shows_for series side price o }
 {
     if arithmetic::shown_size(o) == 0 {
         return false;
@@ -46,7 +46,7 @@ fn shows_for(o: Regular, series: u8, side: u8, price: u32) -> bool
 // The earliest regular order that shows size at a price of a side. The scan reads an order whole only if its key is that of the series and side.
 pub fn first_for(numbers: &[u32], series: u8, side: u8, price: u32) -> Pick
     requires { RightNumbers numbers.now }
-    ensures { result ≡ pick_of (first (showsFor series side price) earlier (venueOf numbers.now).regular) }
+    ensures { result ≡ pick_of (first (shows_for series side price) earlier (venue_of numbers.now).regular) }
 {
     let key = arithmetic::place_of(series, side);
     let n = places::regulars_used(numbers);
@@ -69,7 +69,7 @@ pub fn first_for(numbers: &[u32], series: u8, side: u8, price: u32) -> Pick
 // other side, if the order reaches that price.
 fn first_shown(numbers: &[u32], series: u8, side: u8, price: u32) -> Pick
     requires { RightShown numbers.now series }
-    ensures { result ≡ pick_of (first (isMet series side price) priceThenId (venueOf numbers.now).regular) }
+    ensures { result ≡ pick_of (first (is_met series side price) price_then_id (venue_of numbers.now).regular) }
 {
     let other = arithmetic::opposite_of(side);
     let best = levels::best_regular(numbers, series, other);
@@ -81,7 +81,7 @@ fn first_shown(numbers: &[u32], series: u8, side: u8, price: u32) -> Pick
 
 // An order of this side and price in a series meets m: m's shown size or its reserve.
 fn is_met(m: Regular, series: u8, side: u8, price: u32) -> bool
-    ensures { result ≡ isMet series side price m }
+    ensures { result ≡ is_met series side price m }
 {
     if m.quantity == 0 {
         return false;
@@ -97,7 +97,7 @@ fn is_met(m: Regular, series: u8, side: u8, price: u32) -> bool
 
 // At one price a goes before m: an order that shows before one that does not, then the earlier order.
 fn shows_first(a: Regular, m: Regular) -> bool
-    ensures { result ≡ shownThenId a m }
+    ensures { result ≡ shown_then_id a m }
 {
     if arithmetic::shown_size(m) == 0 {
         if arithmetic::shown_size(a) == 0 {
@@ -113,7 +113,7 @@ fn shows_first(a: Regular, m: Regular) -> bool
 
 // a goes before m: the better price first, then as `shows_first` says.
 fn ranks_before(a: Regular, m: Regular) -> bool
-    ensures { result ≡ priceThenId a m }
+    ensures { result ≡ price_then_id a m }
 {
     if arithmetic::is_better(a.side, a.price, m.price) {
         return true;
@@ -126,7 +126,7 @@ fn ranks_before(a: Regular, m: Regular) -> bool
 
 // The first in rank of the order m at place n and of `best`, the first of the orders after it.
 fn better_pick(best: Pick, n: usize, m: Regular) -> Pick
-    ensures { (x : Choice Regular) → best ≡ pick_of x → result ≡ pick_of (ranked priceThenId n m x) }
+    ensures { (x : Choice Regular) → best ≡ pick_of x → result ≡ pick_of (ranked price_then_id n m x) }
 {
     match best {
         Pick::Nobody => Pick::At(n, m),
@@ -142,7 +142,7 @@ fn better_pick(best: Pick, n: usize, m: Regular) -> Pick
 // The same where some order may show nothing of what is left of it: the first in rank of all orders that are met.
 fn first_ranked(numbers: &[u32], series: u8, side: u8, price: u32) -> Pick
     requires { length numbers.now ≡ size }
-    ensures { result ≡ pick_of (first (isMet series side price) priceThenId (venueOf numbers.now).regular) }
+    ensures { result ≡ pick_of (first (is_met series side price) price_then_id (venue_of numbers.now).regular) }
 {
     let key = arithmetic::place_of(series, arithmetic::opposite_of(side));
     let mut best = Pick::Nobody;
@@ -164,7 +164,7 @@ fn first_ranked(numbers: &[u32], series: u8, side: u8, price: u32) -> Pick
 // The regular order that an order of this side and price in a series meets first.
 pub fn first_met(numbers: &[u32], series: u8, side: u8, price: u32) -> Pick
     requires { RightSeries numbers.now series }
-    ensures { result ≡ pick_of (first (isMet series side price) priceThenId (venueOf numbers.now).regular) }
+    ensures { result ≡ pick_of (first (is_met series side price) price_then_id (venue_of numbers.now).regular) }
 {
     if places::none_shows_again(numbers) {
         return first_shown(numbers, series, side, price);
@@ -175,7 +175,7 @@ pub fn first_met(numbers: &[u32], series: u8, side: u8, price: u32) -> Pick
 // The place of the resting regular order with an id, by binary search: if the order rests, its place is from `low` to below `high`.
 pub fn regular_place(numbers: &[u32], id: u32) -> Found
     requires { DenseNumbers numbers.now }
-    ensures { result ≡ regularFound (venueOf numbers.now) id }
+    ensures { result ≡ regular_found (venue_of numbers.now) id }
 {
     let mut low: usize = 0;
     let mut high = places::regulars_used(numbers);
@@ -197,7 +197,7 @@ pub fn regular_place(numbers: &[u32], id: u32) -> Found
 // The place of the resting complex order with an id.
 pub fn complex_place(numbers: &[u32], id: u32) -> Found
     requires { length numbers.now ≡ size }
-    ensures { result ≡ complexFound (venueOf numbers.now) id }
+    ensures { result ≡ complex_found (venue_of numbers.now) id }
 {
     let n = places::complexes_used(numbers);
     let mut i = 0;

@@ -17,18 +17,18 @@ use Rattle.rules.proofs.Tests.{and_l}
 use Rattle.demands.specs.Soundness.{Shaped}
 use Rattle.records.specs.Seen.{Seen, seen, pasted, ◌plus◌}
 use Rattle.records.proofs.SeenLaws.{plus-in}
-use Rattle.venue_bytes.specs.Held.{venueSize, venueBytes, venueFrom, Declared}
+use Rattle.venue_bytes.specs.Held.{venue_size, venue_bytes, venue_from, Declared}
 use Rattle.venue_writer.proofs.Whole.{venue-length}
 use Rattle.venue_writer.proofs.Back.{held_whole}
-use Rattle.sets.specs.Set.{WrittenSet, joined, setOf, carries, notWritten, writeSet, readSet}
-use Rattle.sets.specs.Promises.{mostSetBytes}
+use Rattle.sets.specs.Set.{WrittenSet, joined, set_of, carries, not_written, write_set, read_set}
+use Rattle.sets.specs.Promises.{most_set_bytes}
 use Rattle.sets.proofs.Most.{at_most}
 use Rattle.sets.proofs.ReadBack.{written-set, reads-back}
 use Rattle.set_writer.specs.declared.Saved.{Saved}
-use Rattle.set_writer.specs.Saving.{savedOf}
+use Rattle.set_writer.specs.Saving.{saved_of}
 use Rattle.set_reader.specs.declared.Resumed.{Resumed}
-use Rattle.set_reader.specs.Returned.{ReadBytes, setRead, asBytes}
-use Rattle.engine.specs.Hosts.{Hosted, leaves, oneHosted, savesAs, saveHosted, resumesAs, resumeHosted, Again, HeldAgain}
+use Rattle.set_reader.specs.Returned.{ReadBytes, set_read, as_bytes}
+use Rattle.engine.specs.Hosts.{Hosted, leaves, one_hosted, saves_as, save_hosted, resumes_as, resume_hosted, Again, HeldAgain}
 use Rattle.engine.proofs.HostsLaws.{declared, held-shaped, held_next}
 use Rattle.c_api.proofs.SettingsTold.{zeros, long}
 
@@ -44,126 +44,126 @@ number_put l o bs x end n f e =
 -- A set written -------------------------------------------------------------------------------
 
 -- a set has few bytes
-written-few : (n room : ℕ) (v : Venue) → Shaped v → (writeSet n v room).written ≤ mostSetBytes
-unfolding writeSet notWritten
+written-few : (n room : ℕ) (v : Venue) → Shaped v → (write_set n v room).written ≤ most_set_bytes
+unfolding write_set not_written
 written-few n room v w =
-    if-by (λ (x : WrittenSet). x.written ≤ mostSetBytes) (not (carries n v)) (λ _. omega arith)
-    (λ _. if-by (λ (x : WrittenSet). x.written ≤ mostSetBytes) (ltb room (length (joined (setOf n v)))) (λ _. omega arith) (λ _. at_most n v w))
+    if-by (λ (x : WrittenSet). x.written ≤ most_set_bytes) (not (carries n v)) (λ _. omega arith)
+    (λ _. if-by (λ (x : WrittenSet). x.written ≤ most_set_bytes) (ltb room (length (joined (set_of n v)))) (λ _. omega arith) (λ _. at_most n v w))
 
-pub saved-few : (memory : List ℕ) (n room : ℕ) (r : Saved) (m : List ℕ) → savedOf r m ≡ writeSet n (venueFrom memory) room → r.written ≤ mostSetBytes
+pub saved-few : (memory : List ℕ) (n room : ℕ) (r : Saved) (m : List ℕ) → saved_of r m ≡ write_set n (venue_from memory) room → r.written ≤ most_set_bytes
 saved-few memory n room r m s =
-    let k : r.written ≡ (writeSet n (venueFrom memory) room).written = ap (λ (x : WrittenSet). x.written) s in
-    let few = written-few n room (venueFrom memory) (held-shaped memory) in
+    let k : r.written ≡ (write_set n (venue_from memory) room).written = ap (λ (x : WrittenSet). x.written) s in
+    let few = written-few n room (venue_from memory) (held-shaped memory) in
     omega arith
 
 -- both memories were zeroed from their starts
 module _ (memory : List ℕ) (n : ℕ) (l z t y : List ℕ) (zeroed : z ≡ take 0 l ++ replicate (length l - 0) 0) (cleared : y ≡ take 0 t ++ replicate (length t - 0) 0) where
   -- the venue's memory is of another length
-  pub saves-none : (length memory ≡ venueSize → ⊥) → savesAs 9 z y ≡ saveHosted memory n (length l) (length t)
-  unfolding saveHosted
-  saves-none h = ap₂ (savesAs 9) (zeros l z zeroed) (zeros t y cleared) ∙ rw (ne_eqb (length memory) venueSize h)
+  pub saves-none : (length memory ≡ venue_size → ⊥) → saves_as 9 z y ≡ save_hosted memory n (length l) (length t)
+  unfolding save_hosted
+  saves-none h = ap₂ (saves_as 9) (zeros l z zeroed) (zeros t y cleared) ∙ rw (ne_eqb (length memory) venue_size h)
 
-  module _ (size : length memory ≡ venueSize) where
+  module _ (size : length memory ≡ venue_size) where
     -- the count's is
-    pub saves-short : (length y ≡ 4 → ⊥) → savesAs 9 z y ≡ saveHosted memory n (length l) (length t)
-    unfolding saveHosted
+    pub saves-short : (length y ≡ 4 → ⊥) → saves_as 9 z y ≡ save_hosted memory n (length l) (length t)
+    unfolding save_hosted
     saves-short h =
-        ap₂ (savesAs 9) (zeros l z zeroed) (zeros t y cleared)
-        ∙ rw (eq-eqb (length memory) venueSize size, ne_eqb (length t) 4 (λ e. h (long t y cleared ∙ e)))
+        ap₂ (saves_as 9) (zeros l z zeroed) (zeros t y cleared)
+        ∙ rw (eq-eqb (length memory) venue_size size, ne_eqb (length t) 4 (λ e. h (long t y cleared ∙ e)))
 
     -- the set is written or refused, and its count put
-    pub saves-all : length y ≡ 4 → (r : Saved) (m : List ℕ) → savedOf r m ≡ writeSet n (venueFrom memory) (length z) →
-        (o : List ℕ) → o ≡ u32 r.written → savesAs r.number m o ≡ saveHosted memory n (length l) (length t)
-    unfolding saveHosted
+    pub saves-all : length y ≡ 4 → (r : Saved) (m : List ℕ) → saved_of r m ≡ write_set n (venue_from memory) (length z) →
+        (o : List ℕ) → o ≡ u32 r.written → saves_as r.number m o ≡ save_hosted memory n (length l) (length t)
+    unfolding save_hosted
     saves-all four r m s o p =
         let f : length t ≡ 4 = (let k = long t y cleared in omega arith) in
-        let w : savedOf r m ≡ writeSet n (venueFrom memory) (length l) = s ∙ ap (writeSet n (venueFrom memory)) (long l z zeroed) in
-        ap (savesAs r.number m) p ∙ ap (λ (x : WrittenSet). savesAs x.number x.memory (u32 x.written)) w
-        ∙ rw (eq-eqb (length memory) venueSize size, eq-eqb (length t) 4 f)
+        let w : saved_of r m ≡ write_set n (venue_from memory) (length l) = s ∙ ap (write_set n (venue_from memory)) (long l z zeroed) in
+        ap (saves_as r.number m) p ∙ ap (λ (x : WrittenSet). saves_as x.number x.memory (u32 x.written)) w
+        ∙ rw (eq-eqb (length memory) venue_size size, eq-eqb (length t) 4 f)
 
 -- A set read ----------------------------------------------------------------------------------
 
 -- the message number's memory was zeroed from its start
 module _ (set venue message z : List ℕ) (zeroed : z ≡ take 0 message ++ replicate (length message - 0) 0) where
   -- the venue's memory is of another length
-  pub reads_none : (length venue ≡ venueSize → ⊥) → resumesAs 9 venue z ≡ resumeHosted set venue message
-  unfolding resumeHosted
-  reads_none h = ap (resumesAs 9 venue) (zeros message z zeroed) ∙ rw (ne_eqb (length venue) venueSize h)
+  pub reads_none : (length venue ≡ venue_size → ⊥) → resumes_as 9 venue z ≡ resume_hosted set venue message
+  unfolding resume_hosted
+  reads_none h = ap (resumes_as 9 venue) (zeros message z zeroed) ∙ rw (ne_eqb (length venue) venue_size h)
 
-  module _ (size : length venue ≡ venueSize) where
+  module _ (size : length venue ≡ venue_size) where
     -- the message number's is
-    pub reads_short : (length z ≡ 4 → ⊥) → resumesAs 9 venue z ≡ resumeHosted set venue message
-    unfolding resumeHosted
+    pub reads_short : (length z ≡ 4 → ⊥) → resumes_as 9 venue z ≡ resume_hosted set venue message
+    unfolding resume_hosted
     reads_short h =
-        ap (resumesAs 9 venue) (zeros message z zeroed) ∙ rw (eq-eqb (length venue) venueSize size, ne_eqb (length message) 4 (λ f. h (long message z zeroed ∙ f)))
+        ap (resumes_as 9 venue) (zeros message z zeroed) ∙ rw (eq-eqb (length venue) venue_size size, ne_eqb (length message) 4 (λ f. h (long message z zeroed ∙ f)))
 
     -- the set is read or refused, and both are written
-    pub reads_all : length z ≡ 4 → (r : Resumed) (m : List ℕ) → setRead r m ≡ asBytes (readSet set) → (o : List ℕ) → o ≡ u32 r.message →
-        resumesAs r.number m o ≡ resumeHosted set venue message
-    unfolding resumeHosted asBytes
+    pub reads_all : length z ≡ 4 → (r : Resumed) (m : List ℕ) → set_read r m ≡ as_bytes (read_set set) → (o : List ℕ) → o ≡ u32 r.message →
+        resumes_as r.number m o ≡ resume_hosted set venue message
+    unfolding resume_hosted as_bytes
     reads_all four r m e o q =
         let f : length message ≡ 4 = (let k = long message z zeroed in omega arith) in
-        ap (resumesAs r.number m) q
-        ∙ ap (λ (x : ReadBytes). resumesAs x.number x.venue (u32 x.message)) e
-        ∙ rw (eq-eqb (length venue) venueSize size, eq-eqb (length message) 4 f)
+        ap (resumes_as r.number m) q
+        ∙ ap (λ (x : ReadBytes). resumes_as x.number x.venue (u32 x.message)) e
+        ∙ rw (eq-eqb (length venue) venue_size size, eq-eqb (length message) 4 f)
 
 -- Written and read ----------------------------------------------------------------------------
 
 -- one message on two memories that hold one venue
 module _ (n room : ℕ) (bs : List ℕ) where
-  held-call : (m : List ℕ) → length m ≡ venueSize → oneHosted m n room bs ≡ leaves m (one (venueFrom m) n room bs)
-  unfolding oneHosted
-  held-call m size = rw (eq-eqb (length m) venueSize size)
+  held-call : (m : List ℕ) → length m ≡ venue_size → one_hosted m n room bs ≡ leaves m (one (venue_from m) n room bs)
+  unfolding one_hosted
+  held-call m size = rw (eq-eqb (length m) venue_size size)
 
-  module _ (m k : List ℕ) (first : length m ≡ venueSize) (second : length k ≡ venueSize) (same : venueFrom m ≡ venueFrom k) where
-    same_number : (oneHosted m n room bs).number ≡ (oneHosted k n room bs).number
+  module _ (m k : List ℕ) (first : length m ≡ venue_size) (second : length k ≡ venue_size) (same : venue_from m ≡ venue_from k) where
+    same_number : (one_hosted m n room bs).number ≡ (one_hosted k n room bs).number
     unfolding leaves
     same_number =
         ap (λ (h : Hosted). h.number) (held-call m first) ∙ ap (λ (v : Venue). (one v n room bs).returned.number) same
         ∙ ap (λ (h : Hosted). h.number) (sym (held-call k second))
 
-    same-venue : venueFrom (oneHosted m n room bs).venue ≡ venueFrom (oneHosted k n room bs).venue
+    same-venue : venue_from (one_hosted m n room bs).venue ≡ venue_from (one_hosted k n room bs).venue
     same-venue = held_next m n room bs first ∙ ap (λ (v : Venue). (one v n room bs).returned.venue) same ∙ sym (held_next k n room bs second)
 
-    same-report : (oneHosted m n room bs).report ≡ (oneHosted k n room bs).report
+    same-report : (one_hosted m n room bs).report ≡ (one_hosted k n room bs).report
     unfolding leaves
     same-report =
         ap (λ (h : Hosted). h.report) (held-call m first) ∙ ap (λ (v : Venue). (one v n room bs).report) same
         ∙ ap (λ (h : Hosted). h.report) (sym (held-call k second))
 
-module _ (memory : List ℕ) (number room : ℕ) (size : length memory ≡ venueSize) where
+module _ (memory : List ℕ) (number room : ℕ) (size : length memory ≡ venue_size) where
   abbrev v : Venue
-  v = venueFrom memory
+  v = venue_from memory
 
-  saved : saveHosted memory number room 4 ≡ savesAs (writeSet number v room).number (writeSet number v room).memory (u32 (writeSet number v room).written)
-  unfolding saveHosted
-  saved = rw (eq-eqb (length memory) venueSize size)
+  saved : save_hosted memory number room 4 ≡ saves_as (write_set number v room).number (write_set number v room).memory (u32 (write_set number v room).written)
+  unfolding save_hosted
+  saved = rw (eq-eqb (length memory) venue_size size)
 
-  module _ (few : FourBytes number) (done : (writeSet number v room).number ≡ 0) where
+  module _ (few : FourBytes number) (done : (write_set number v room).number ≡ 0) where
     -- a venue that is written has its fields in their widths
     fits : Declared v
     unfolding carries
     fits = declared v (record { shaped = held-shaped memory; is = and_l (sound v) (follows (suc number) v) (written-set number room v done).carries })
 
-    again : Again memory number (resumesAs 0 (venueBytes v) (u32 number))
+    again : Again memory number (resumes_as 0 (venue_bytes v) (u32 number))
     again =
-        let e : venueFrom (venueBytes v) ≡ v = held_whole v fits in
-        let size' : length (venueBytes v) ≡ venueSize = venue-length v fits.sized in
+        let e : venue_from (venue_bytes v) ≡ v = held_whole v fits in
+        let size' : length (venue_bytes v) ≡ venue_size = venue-length v fits.sized in
         record {
           read = refl;
           venue = e;
           message = refl;
-          next = λ n r bs. (same_number n r bs (venueBytes v) memory size' size e, same-venue n r bs (venueBytes v) memory size' size e, same-report n r bs (venueBytes v) memory size' size e);
+          next = λ n r bs. (same_number n r bs (venue_bytes v) memory size' size e, same-venue n r bs (venue_bytes v) memory size' size e, same-report n r bs (venue_bytes v) memory size' size e);
         }
 
-    resumed : (venue message : List ℕ) → length venue ≡ venueSize → length message ≡ 4 →
-        resumeHosted (writeSet number v room).memory venue message ≡ resumesAs 0 (venueBytes v) (u32 number)
-    unfolding resumeHosted
+    resumed : (venue message : List ℕ) → length venue ≡ venue_size → length message ≡ 4 →
+        resume_hosted (write_set number v room).memory venue message ≡ resumes_as 0 (venue_bytes v) (u32 number)
+    unfolding resume_hosted
     resumed venue message a b =
-        rw (eq-eqb (length venue) venueSize a, eq-eqb (length message) 4 b, reads-back number room v few (held-shaped memory) done)
+        rw (eq-eqb (length venue) venue_size a, eq-eqb (length message) 4 b, reads-back number room v few (held-shaped memory) done)
 
 pub held-again : HeldAgain
 held-again memory venue message number room few size a b h =
     let s = saved memory number room size in
-    let done : (writeSet number (venueFrom memory) room).number ≡ 0 = rw s at h in
+    let done : (write_set number (venue_from memory) room).number ≡ 0 = rw s at h in
     rw s (subst (Again memory number) (sym (resumed memory number room size few done venue message a b)) (again memory number room size few done))

@@ -13,8 +13,8 @@ use Rattle.rules.specs.Calls.{settings}
 use Rattle.rules.proofs.Cases.{if-by}
 use Rattle.records.specs.Seen.{Seen, seen, pasted, ◌plus◌}
 use Rattle.records.proofs.SeenLaws.{plus-in, pasted_length, pasted-pasted}
-use Rattle.venue_bytes.specs.Held.{venueSize, venueFrom}
-use Rattle.engine.specs.Hosts.{settingsBytes, told, settingsHosted}
+use Rattle.venue_bytes.specs.Held.{venue_size, venue_from}
+use Rattle.engine.specs.Hosts.{settings_bytes, told, settings_hosted}
 
 -- Bytes after bytes ---------------------------------------------------------------------------
 
@@ -43,8 +43,8 @@ settings-long : (v : Venue) (n : ℕ) → length (settings v n).increments ≡ 8
 unfolding settings
 settings-long v n = if-by (λ (s : Settings). length s.increments ≡ 8) (sound v) (λ _. refl) (λ _. refl)
 
-bytes-long : (v : Venue) (n : ℕ) → length (settingsBytes (settings v n)) ≡ 9
-unfolding settingsBytes
+bytes-long : (v : Venue) (n : ℕ) → length (settings_bytes (settings v n)) ≡ 9
+unfolding settings_bytes
 bytes-long v n = length-append (settings v n).increments ((settings v n).percent ∷ []) ∙ ap (λ (k : ℕ). k + 1) (settings-long v n)
 
 -- a memory zeroed from its start
@@ -58,25 +58,25 @@ module _ (l z : List ℕ) (zeroed : z ≡ take 0 l ++ replicate (length l - 0) 0
 -- the memory for them was
 module _ (memory : List ℕ) (n : ℕ) (l z : List ℕ) (zeroed : z ≡ take 0 l ++ replicate (length l - 0) 0) where
   -- the venue's memory is of another length
-  pub told_none : (length memory ≡ venueSize → ⊥) → told 9 z ≡ settingsHosted memory n (length l)
-  unfolding settingsHosted
-  told_none h = ap (told 9) (zeros l z zeroed) ∙ rw (ne_eqb (length memory) venueSize h)
+  pub told_none : (length memory ≡ venue_size → ⊥) → told 9 z ≡ settings_hosted memory n (length l)
+  unfolding settings_hosted
+  told_none h = ap (told 9) (zeros l z zeroed) ∙ rw (ne_eqb (length memory) venue_size h)
 
-  module _ (size : length memory ≡ venueSize) where
+  module _ (size : length memory ≡ venue_size) where
     -- theirs is too short
-    pub told-short : length z < 9 → told 9 z ≡ settingsHosted memory n (length l)
-    unfolding settingsHosted
-    told-short h = ap (told 9) (zeros l z zeroed) ∙ rw (eq-eqb (length memory) venueSize size, lt-leb 9 (length l) (let e = long l z zeroed in omega arith))
+    pub told-short : length z < 9 → told 9 z ≡ settings_hosted memory n (length l)
+    unfolding settings_hosted
+    told-short h = ap (told 9) (zeros l z zeroed) ∙ rw (eq-eqb (length memory) venue_size size, lt-leb 9 (length l) (let e = long l z zeroed in omega arith))
 
     -- it holds them
-    pub told-all : 9 ≤ length z → (s : Settings) → s ≡ settings (venueFrom memory) n → (o : List ℕ) → o ≡ pasted z 0 (settingsBytes s) →
-        told s.number o ≡ settingsHosted memory n (length l)
-    unfolding settingsHosted pasted
+    pub told-all : 9 ≤ length z → (s : Settings) → s ≡ settings (venue_from memory) n → (o : List ℕ) → o ≡ pasted z 0 (settings_bytes s) →
+        told s.number o ≡ settings_hosted memory n (length l)
+    unfolding settings_hosted pasted
     told-all h s g o p =
-        let k = bytes-long (venueFrom memory) n in
-        let j : 0 + length (settingsBytes (settings (venueFrom memory) n)) ≡ 9 = omega arith in
+        let k = bytes-long (venue_from memory) n in
+        let j : 0 + length (settings_bytes (settings (venue_from memory) n)) ≡ 9 = omega arith in
         ap₂ told (ap (λ (x : Settings). x.number) g)
-        (p ∙ ap₂ (λ (x : List ℕ) (y : Settings). settingsBytes y ++ drop (0 + length (settingsBytes y)) x) (zeros l z zeroed) g
-        ∙ ap (λ (i : ℕ). settingsBytes (settings (venueFrom memory) n) ++ drop i (replicate (length l) 0)) j
-        ∙ ap (λ (x : List ℕ). settingsBytes (settings (venueFrom memory) n) ++ x) (zeros-left 9 (length l)))
-        ∙ rw (eq-eqb (length memory) venueSize size, le-leb 9 (length l) (let q = long l z zeroed in omega arith))
+        (p ∙ ap₂ (λ (x : List ℕ) (y : Settings). settings_bytes y ++ drop (0 + length (settings_bytes y)) x) (zeros l z zeroed) g
+        ∙ ap (λ (i : ℕ). settings_bytes (settings (venue_from memory) n) ++ drop i (replicate (length l) 0)) j
+        ∙ ap (λ (x : List ℕ). settings_bytes (settings (venue_from memory) n) ++ x) (zeros-left 9 (length l)))
+        ∙ rw (eq-eqb (length memory) venue_size size, le-leb 9 (length l) (let q = long l z zeroed in omega arith))

@@ -4,8 +4,8 @@ ghost use Rattle.rules.specs.Calls as calls;
 ghost use Rattle.rules.specs.Bytes.{u32};
 ghost use Rattle.records.specs.Seen.{pasted};
 ghost use Rattle.feed.specs.Feed as feeding;
-ghost use Rattle.engine.specs.Hosts.{firstVenue, freshHosted, hosted, oneHosted, batched, messagesHosted, settingsBytes, told, settingsHosted};
-ghost use Rattle.engine.specs.Hosts.{savesAs, saveHosted, resumesAs, resumeHosted};
+ghost use Rattle.engine.specs.Hosts.{first_venue, fresh_hosted, hosted, one_hosted, batched, messages_hosted, settings_bytes, told, settings_hosted};
+ghost use Rattle.engine.specs.Hosts.{saves_as, save_hosted, resumes_as, resume_hosted};
 
 use rules::Settings;
 
@@ -22,7 +22,7 @@ pub extern "C" fn legging_run(messages: &[u8], report: &mut [u8]) -> u8
 // Writes the bytes of a fresh venue (crate venue_bytes) into a host's memory. A memory of another length can hold no venue: 9.
 #[unsafe(no_mangle)]
 pub extern "C" fn legging_fresh(venue: &mut [u8]) -> u8
-    ensures { firstVenue result venue.new ≡ freshHosted venue.old }
+    ensures { first_venue result venue.new ≡ fresh_hosted venue.old }
 {
     if venue.len() != venue_bytes::VENUE_SIZE {
         return 9;
@@ -41,7 +41,7 @@ pub extern "C" fn legging_message(
     message: &[u8],
     report: &mut [u8],
 ) -> u8
-    ensures { hosted result venue.new report.new ≡ oneHosted venue.old before (length report.old) message.now }
+    ensures { hosted result venue.new report.new ≡ one_hosted venue.old before (length report.old) message.now }
 {
     if venue.len() != venue_bytes::VENUE_SIZE {
         records::zero_from(report, 0);
@@ -61,7 +61,7 @@ pub extern "C" fn legging_messages(
     report: &mut [u8],
     done: &mut [u8],
 ) -> u8
-    ensures { batched result venue.new report.new done.new ≡ messagesHosted venue.old before (length report.old) (length done.old) messages.now }
+    ensures { batched result venue.new report.new done.new ≡ messages_hosted venue.old before (length report.old) (length done.old) messages.now }
 {
     records::zero_from(done, 0);
     if venue.len() != venue_bytes::VENUE_SIZE {
@@ -90,7 +90,7 @@ pub extern "C" fn legging_feed<'a>(main: &'a [u8], spare: &'a [u8], report: &mut
 // Writes the settings' bytes at the front of a memory.
 fn put_settings(out: &mut [u8], s: Settings)
     requires { 9 ≤ length out.old }
-    ensures { out.new ≡ pasted out.old 0 (settingsBytes s) }
+    ensures { out.new ≡ pasted out.old 0 (settings_bytes s) }
 {
     let increments = s.increments;
     let at = records::put(out, 0, &increments);
@@ -102,7 +102,7 @@ fn put_settings(out: &mut [u8], s: Settings)
 // returns the number. A memory of another length holds no venue, and one of fewer than nine bytes no settings: 9.
 #[unsafe(no_mangle)]
 pub extern "C" fn legging_settings(venue: &[u8], number: u32, settings: &mut [u8]) -> u8
-    ensures { told result settings.new ≡ settingsHosted venue.now number (length settings.old) }
+    ensures { told result settings.new ≡ settings_hosted venue.now number (length settings.old) }
 {
     records::zero_from(settings, 0);
     if venue.len() != venue_bytes::VENUE_SIZE {
@@ -134,7 +134,7 @@ pub extern "C" fn legging_write_set(
     set: &mut [u8],
     written: &mut [u8],
 ) -> u8
-    ensures { savesAs result set.new written.new ≡ saveHosted venue.now number (length set.old) (length written.old) }
+    ensures { saves_as result set.new written.new ≡ save_hosted venue.now number (length set.old) (length written.old) }
 {
     records::zero_from(set, 0);
     records::zero_from(written, 0);
@@ -153,7 +153,7 @@ pub extern "C" fn legging_write_set(
 // A memory of another length can hold no venue or no message number: 9, and the venue's memory stays as it was.
 #[unsafe(no_mangle)]
 pub extern "C" fn legging_read_set(set: &[u8], venue: &mut [u8], number: &mut [u8]) -> u8
-    ensures { resumesAs result venue.new number.new ≡ resumeHosted set.now venue.old number.old }
+    ensures { resumes_as result venue.new number.new ≡ resume_hosted set.now venue.old number.old }
 {
     records::zero_from(number, 0);
     if venue.len() != venue_bytes::VENUE_SIZE {

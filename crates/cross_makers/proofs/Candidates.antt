@@ -10,15 +10,15 @@ use lib.IntN.{ℤ, pos, neg_ℤ, ◌+ℤ◌}
 use lib.Signed.{le_z, lt_z}
 use Rattle.rules.specs.declared.Complex.{Complex}
 use Rattle.rules.specs.declared.Venue.{Venue}
-use Rattle.rules.specs.Base.{ranked, firstFrom, first}
-use Rattle.rules.specs.Words.{opposite, noComplex, earlierComplex}
-use Rattle.rules.specs.Prices.{bestRegular, weighed, net, inBand}
-use Rattle.rules.specs.Complex.{reversed, respectsLegs, crosses, limitThenId}
+use Rattle.rules.specs.Base.{ranked, first_from, first}
+use Rattle.rules.specs.Words.{opposite, no_complex, earlier_complex}
+use Rattle.rules.specs.Prices.{best_regular, weighed, net, in_band}
+use Rattle.rules.specs.Complex.{reversed, respects_legs, crosses, limit_then_id}
 use Rattle.rules.proofs.Tests.{not-out}
-use Rattle.places.specs.Layout.{upto, complexesUsed, complexIn, venueOf}
+use Rattle.places.specs.Layout.{upto, complexes_used, complex_in, venue_of}
 use Rattle.cross_makers.specs.declared.Maker.{Maker}
 use Rattle.cross_makers.specs.declared.Maker.TheVariants.{Nobody, At}
-use Rattle.cross_makers.specs.Picks.{pickedOf}
+use Rattle.cross_makers.specs.Picks.{picked_of}
 use Rattle.levels.proofs.Scanning.{first-used}
 
 -- what a negated test says of the definition's
@@ -50,75 +50,75 @@ module _ (v : Venue) (c m : Complex) where
       cross-apart h = rw (ne_eqb m.quantity 0 n, r, h)
 
       module _ (l : le_z (pos 0) (c.limit +ℤ m.limit) ≡ true) where
-        pub cross-out : inBand v c (neg_ℤ m.limit) ≡ false → false ≡ crosses v c m
+        pub cross-out : in_band v c (neg_ℤ m.limit) ≡ false → false ≡ crosses v c m
         unfolding crosses
         cross-out h = rw (ne_eqb m.quantity 0 n, r, l, h)
 
-        module _ (i : inBand v c (neg_ℤ m.limit) ≡ true) where
-          pub cross-far : inBand v m m.limit ≡ false → false ≡ crosses v c m
+        module _ (i : in_band v c (neg_ℤ m.limit) ≡ true) where
+          pub cross-far : in_band v m m.limit ≡ false → false ≡ crosses v c m
           unfolding crosses
           cross-far h = rw (ne_eqb m.quantity 0 n, r, l, i, h)
 
-          module _ (j : inBand v m m.limit ≡ true) where
-            pub cross-above : respectsLegs v c (neg_ℤ m.limit) ≡ false → false ≡ crosses v c m
+          module _ (j : in_band v m m.limit ≡ true) where
+            pub cross-above : respects_legs v c (neg_ℤ m.limit) ≡ false → false ≡ crosses v c m
             unfolding crosses
             cross-above h = rw (ne_eqb m.quantity 0 n, r, l, i, j, h)
 
-            pub cross-last : respectsLegs v c (neg_ℤ m.limit) ≡ true → (t : Bool) → t ≡ respectsLegs v m m.limit → t ≡ crosses v c m
+            pub cross-last : respects_legs v c (neg_ℤ m.limit) ≡ true → (t : Bool) → t ≡ respects_legs v m m.limit → t ≡ crosses v c m
             unfolding crosses
             cross-last h t e = rw (ne_eqb m.quantity 0 n, r, l, i, j, h) e
 
 -- The legs' prices ----------------------------------------------------------------------------
 
 -- best regular prices a and b, against the net t
-module _ (v : Venue) (c : Complex) (t : ℤ) (a : ℕ) (ea : a ≡ bestRegular v c.series1 (opposite c.side1)) where
-  pub legs-none1 : a ≡ 0 → true ≡ respectsLegs v c t
-  unfolding respectsLegs
+module _ (v : Venue) (c : Complex) (t : ℤ) (a : ℕ) (ea : a ≡ best_regular v c.series1 (opposite c.side1)) where
+  pub legs-none1 : a ≡ 0 → true ≡ respects_legs v c t
+  unfolding respects_legs
   legs-none1 h = rw (← ea, eq-eqb a 0 h)
 
-  module _ (n : a ≡ 0 → ⊥) (b : ℕ) (eb : b ≡ bestRegular v c.series2 (opposite c.side2)) where
-    pub legs-none2 : b ≡ 0 → true ≡ respectsLegs v c t
-    unfolding respectsLegs
+  module _ (n : a ≡ 0 → ⊥) (b : ℕ) (eb : b ≡ best_regular v c.series2 (opposite c.side2)) where
+    pub legs-none2 : b ≡ 0 → true ≡ respects_legs v c t
+    unfolding respects_legs
     legs-none2 h = rw (← ea, ne_eqb a 0 n, ← eb, eq-eqb b 0 h)
 
-    pub legs-net : (b ≡ 0 → ⊥) → (y x : ℤ) → y ≡ t → x ≡ weighed c.ratio1 c.side1 a +ℤ weighed c.ratio2 c.side2 b → le_z y x ≡ respectsLegs v c t
-    unfolding respectsLegs net
+    pub legs-net : (b ≡ 0 → ⊥) → (y x : ℤ) → y ≡ t → x ≡ weighed c.ratio1 c.side1 a +ℤ weighed c.ratio2 c.side2 b → le_z y x ≡ respects_legs v c t
+    unfolding respects_legs net
     legs-net m y x ey ex = rw (← ea, ne_eqb a 0 n, ← eb, ne_eqb b 0 m, ← ex, ey)
 
 -- Rank ----------------------------------------------------------------------------------------
 
 module _ (a m : Complex) where
-  pub rank-higher : lt_z m.limit a.limit ≡ true → true ≡ limitThenId a m
-  unfolding limitThenId
+  pub rank-higher : lt_z m.limit a.limit ≡ true → true ≡ limit_then_id a m
+  unfolding limit_then_id
   rank-higher h = rw h
 
-  pub rank-lower : lt_z m.limit a.limit ≡ false → lt_z a.limit m.limit ≡ true → false ≡ limitThenId a m
-  unfolding limitThenId
+  pub rank-lower : lt_z m.limit a.limit ≡ false → lt_z a.limit m.limit ≡ true → false ≡ limit_then_id a m
+  unfolding limit_then_id
   rank-lower h k = rw (h, k)
 
-  pub rank-equal : lt_z m.limit a.limit ≡ false → lt_z a.limit m.limit ≡ false → ltb a.id m.id ≡ limitThenId a m
-  unfolding limitThenId earlierComplex
+  pub rank-equal : lt_z m.limit a.limit ≡ false → lt_z a.limit m.limit ≡ false → ltb a.id m.id ≡ limit_then_id a m
+  unfolding limit_then_id earlier_complex
   rank-equal h k = rw (h, k)
 
 module _ (best : Maker) (n : ℕ) (m : Complex) where
-  pub pick-none : best ≡ Nobody → pickedOf (At n m) ≡ ranked limitThenId n m (pickedOf best)
-  unfolding pickedOf ranked
+  pub pick-none : best ≡ Nobody → picked_of (At n m) ≡ ranked limit_then_id n m (picked_of best)
+  unfolding picked_of ranked
   pick-none e = rw e
 
   module _ (i : ℕ) (a : Complex) (e : best ≡ At i a) where
-    pub pick-kept : limitThenId a m ≡ true → pickedOf (At i a) ≡ ranked limitThenId n m (pickedOf best)
-    unfolding pickedOf ranked
+    pub pick-kept : limit_then_id a m ≡ true → picked_of (At i a) ≡ ranked limit_then_id n m (picked_of best)
+    unfolding picked_of ranked
     pick-kept h = rw (e, h)
 
-    pub pick-new : limitThenId a m ≡ false → pickedOf (At n m) ≡ ranked limitThenId n m (pickedOf best)
-    unfolding pickedOf ranked
+    pub pick-new : limit_then_id a m ≡ false → picked_of (At n m) ≡ ranked limit_then_id n m (picked_of best)
+    unfolding picked_of ranked
     pick-new h = rw (e, h)
 
 -- The places in use ---------------------------------------------------------------------------
 
 pub first-crossed : (b : List ℕ) (c : Complex) →
-    firstFrom (crosses (venueOf b) c) limitThenId 0 (upto (complexIn b) 0 (complexesUsed b - 0)) ≡ first (crosses (venueOf b) c) limitThenId (venueOf b).complex
+    first_from (crosses (venue_of b) c) limit_then_id 0 (upto (complex_in b) 0 (complexes_used b - 0)) ≡ first (crosses (venue_of b) c) limit_then_id (venue_of b).complex
 first-crossed b c =
-    ap (λ (k : ℕ). firstFrom (crosses (venueOf b) c) limitThenId 0 (upto (complexIn b) 0 k)) (sub-zero (complexesUsed b))
-    ∙ first-used (crosses (venueOf b) c) limitThenId (complexIn b) noComplex (complexesUsed b) 32 (sym (cross-free (venueOf b) c noComplex refl))
-    ∙ ap (first (crosses (venueOf b) c) limitThenId) (unfold venueOf in refl)
+    ap (λ (k : ℕ). first_from (crosses (venue_of b) c) limit_then_id 0 (upto (complex_in b) 0 k)) (sub-zero (complexes_used b))
+    ∙ first-used (crosses (venue_of b) c) limit_then_id (complex_in b) no_complex (complexes_used b) 32 (sym (cross-free (venue_of b) c no_complex refl))
+    ∙ ap (first (crosses (venue_of b) c) limit_then_id) (unfold venue_of in refl)

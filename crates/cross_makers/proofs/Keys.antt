@@ -7,20 +7,20 @@ use borrow.Author.Tests.{eqb-true, eqb-false}
 use lib.Dec.{eqb}
 use Rattle.rules.specs.declared.Complex.{Complex}
 use Rattle.rules.specs.declared.Venue.{Venue}
-use Rattle.rules.specs.Words.{opposite, placeOf}
+use Rattle.rules.specs.Words.{opposite, place_of}
 use Rattle.rules.specs.Complex.{reversed, crosses}
 use Rattle.rules.proofs.Tests.{and_l, and_r, and-false, or-false-l, or-false-r}
 use Rattle.rules.proofs.Better.{is_false}
-use Rattle.places.specs.Layout.{legsKey, ratiosNumber, crossKey, facingKey}
+use Rattle.places.specs.Layout.{legs_key, ratios_number, cross_key, facing_key}
 use Rattle.levels.specs.Grid.{LegsIn}
 
 -- a leg of series a at side b faces one of series s at side d
-leg-faces : (a b s d : ℕ) → d < 2 → a ≡ s → b ≡ opposite d → placeOf s d ≡ placeOf a (opposite b)
-unfolding placeOf opposite
+leg-faces : (a b s d : ℕ) → d < 2 → a ≡ s → b ≡ opposite d → place_of s d ≡ place_of a (opposite b)
+unfolding place_of opposite
 leg-faces a b s d h p q = omega arith
 
 -- two legs that do not both face with these ratios
-legs-aside : (a b q s d r a' b' q' s' d' r' : ℕ) → d < 2 → d' < 2 → (placeOf s d ≡ placeOf a (opposite b) → q ≡ r → placeOf s' d' ≡ placeOf a' (opposite b') → q' ≡ r' → ⊥) →
+legs-aside : (a b q s d r a' b' q' s' d' r' : ℕ) → d < 2 → d' < 2 → (place_of s d ≡ place_of a (opposite b) → q ≡ r → place_of s' d' ≡ place_of a' (opposite b') → q' ≡ r' → ⊥) →
     (eqb a s && eqb b (opposite d) && eqb q r && eqb a' s' && eqb b' (opposite d') && eqb q' r') ≡ false
 legs-aside a b q s d r a' b' q' s' d' r' h h' n =
     is_false _ (λ e.
@@ -37,11 +37,11 @@ legs-aside a b q s d r a' b' q' s' d' r' h h' n =
     (eqb-true q' r' ratio'))
 
 -- an order with neither key is not reversed, and so no candidate
-module _ (c m : Complex) (i : LegsIn m) (k x y : ℕ) (e : k ≡ crossKey m)
-    (p : x ≡ facingKey c.series1 c.side1 c.ratio1 c.series2 c.side2 c.ratio2) (q : y ≡ facingKey c.series2 c.side2 c.ratio2 c.series1 c.side1 c.ratio1)
+module _ (c m : Complex) (i : LegsIn m) (k x y : ℕ) (e : k ≡ cross_key m)
+    (p : x ≡ facing_key c.series1 c.side1 c.ratio1 c.series2 c.side2 c.ratio2) (q : y ≡ facing_key c.series2 c.side2 c.ratio2 c.series1 c.side1 c.ratio1)
     (n : (eqb k x || eqb k y) ≡ false) where
   reversed-key : reversed c m ≡ false
-  unfolding reversed legsKey ratiosNumber crossKey facingKey
+  unfolding reversed legs_key ratios_number cross_key facing_key
   reversed-key =
       rw (
         legs-aside c.series1 c.side1 c.ratio1 m.series1 m.side1 m.ratio1 c.series2 c.side2 c.ratio2 m.series2 m.side2 m.ratio2 i.side1 i.side2

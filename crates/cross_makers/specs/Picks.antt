@@ -4,6 +4,6 @@ use Rattle.rules.specs.Base.{Choice, nobody, picked}
 use Rattle.cross_makers.specs.declared.Maker.{Maker}
 use Rattle.cross_makers.specs.declared.Maker.TheVariants.{Nobody, At}
 
-unfoldable pub pickedOf : Maker → Choice Complex
-pickedOf Nobody = nobody
-pickedOf (At i c) = picked i c
+unfoldable pub picked_of : Maker → Choice Complex
+picked_of Nobody = nobody
+picked_of (At i c) = picked i c

@@ -4,10 +4,10 @@ ghost use Rattle.std.specs.Int.Signed.{le_z};
 ghost use Rattle.rules.specs.declared.Venue.{Venue};
 ghost use Rattle.rules.specs.Base.{if◌then◌else◌, ranked, first};
 ghost use Rattle.rules.specs.Words.{opposite};
-ghost use Rattle.rules.specs.Complex.{reversed, respectsLegs, crosses, limitThenId, cross};
-ghost use Rattle.places.specs.Layout.{venueOf};
+ghost use Rattle.rules.specs.Complex.{reversed, respects_legs, crosses, limit_then_id, cross};
+ghost use Rattle.places.specs.Layout.{venue_of};
 ghost use Rattle.levels.specs.Grid.{TakenOf};
-ghost use Rattle.cross_makers.specs.Picks.{pickedOf};
+ghost use Rattle.cross_makers.specs.Picks.{picked_of};
 ghost use Rattle.levels.specs.Requirements.{LegsReady, LegsPairReady};
 
 use arithmetic::limit_of;
@@ -76,7 +76,7 @@ fn limits_meet(c: Complex, m: Complex) -> bool
 
 // At this net c pays no more than at the best regular prices, where both its legs have one; `taken` has the levels that the legs take.
 fn respects_legs(taken: TakenLevels, c: Complex, net: i64) -> bool
-    ensures { (v : Venue) → TakenOf taken c v.regular → result ≡ respectsLegs v c net }
+    ensures { (v : Venue) → TakenOf taken c v.regular → result ≡ respects_legs v c net }
 {
     let one = taken.first;
     if one.price == 0 {
@@ -92,7 +92,7 @@ fn respects_legs(taken: TakenLevels, c: Complex, net: i64) -> bool
 // c can cross with the resting order m.
 pub fn can_cross(numbers: &[u32], c: Complex, m: Complex) -> bool
     requires { LegsPairReady numbers.now c m }
-    ensures { result ≡ crosses (venueOf numbers.now) c m }
+    ensures { result ≡ crosses (venue_of numbers.now) c m }
 {
     if m.quantity == 0 {
         return false;
@@ -121,7 +121,7 @@ pub fn can_cross(numbers: &[u32], c: Complex, m: Complex) -> bool
 
 // a goes before m: the higher limit first, then the earlier order.
 pub fn crosses_before(a: Complex, m: Complex) -> bool
-    ensures { result ≡ limitThenId a m }
+    ensures { result ≡ limit_then_id a m }
 {
     let x = a.limit;
     let y = m.limit;
@@ -136,7 +136,7 @@ pub fn crosses_before(a: Complex, m: Complex) -> bool
 
 // The first of the candidate m at place n and of `best`, the first of the candidates after it.
 fn better_maker(best: Maker, n: usize, m: Complex) -> Maker
-    ensures { pickedOf result ≡ ranked limitThenId n m (pickedOf best) }
+    ensures { picked_of result ≡ ranked limit_then_id n m (picked_of best) }
 {
     match best {
         Maker::Nobody => Maker::At(n, m),
@@ -162,7 +162,7 @@ fn is_either(key: usize, one: usize, two: usize) -> bool
 // The resting order that c crosses with first. The scan reads only orders whose key says that their legs and ratios face those of c.
 pub fn first_cross(numbers: &[u32], c: Complex) -> Maker
     requires { LegsReady numbers.now c }
-    ensures { pickedOf result ≡ first (crosses (venueOf numbers.now) c) limitThenId (venueOf numbers.now).complex }
+    ensures { picked_of result ≡ first (crosses (venue_of numbers.now) c) limit_then_id (venue_of numbers.now).complex }
 {
     let straight = places::facing_key(c.series1, c.side1, c.ratio1, c.series2, c.side2, c.ratio2);
     let turned = places::facing_key(c.series2, c.side2, c.ratio2, c.series1, c.side1, c.ratio1);

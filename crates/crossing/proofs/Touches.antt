@@ -12,10 +12,10 @@ use Rattle.rules.specs.declared.Venue.{Venue}
 use Rattle.rules.specs.declared.Cause.{Cause}
 use Rattle.rules.specs.declared.Cause.TheVariants.{Touched, NoUnit}
 use Rattle.rules.specs.Base.{if◌then◌else◌}
-use Rattle.rules.specs.Words.{opposite, placeOf, complexAt}
-use Rattle.rules.specs.Prices.{bestOwn, ownSize, weighed, net}
-use Rattle.rules.specs.Removal.{remove, failIf}
-use Rattle.rules.specs.Complex.{touches, takenSide, fillsUnit, touch}
+use Rattle.rules.specs.Words.{opposite, place_of, complex_at}
+use Rattle.rules.specs.Prices.{best_own, own_size, weighed, net}
+use Rattle.rules.specs.Removal.{remove, fail_if}
+use Rattle.rules.specs.Complex.{touches, taken_side, fills_unit, touch}
 use Rattle.records.specs.Seen.{seen}
 use Rattle.records.specs.Stage.{stage, ◌does◌}
 use Rattle.records.proofs.StageLaws.{does-nothing}
@@ -25,17 +25,17 @@ module _ (v : Venue) (c : Complex) where
   unfolding touches
   touch-free h = rw (eq-eqb c.quantity 0 h)
 
-  module _ (n : c.quantity ≡ 0 → ⊥) (a f : ℕ) (ef : f ≡ opposite c.side1) (ea : a ≡ bestOwn v c.series1 f) where
-    one : a ≡ bestOwn v c.series1 (opposite c.side1)
-    one = ea ∙ ap (bestOwn v c.series1) ef
+  module _ (n : c.quantity ≡ 0 → ⊥) (a f : ℕ) (ef : f ≡ opposite c.side1) (ea : a ≡ best_own v c.series1 f) where
+    one : a ≡ best_own v c.series1 (opposite c.side1)
+    one = ea ∙ ap (best_own v c.series1) ef
 
     pub touch-none1 : a ≡ 0 → false ≡ touches v c
     unfolding touches
     touch-none1 h = rw (ne_eqb c.quantity 0 n, ← one, eq-eqb a 0 h)
 
-    module _ (m : a ≡ 0 → ⊥) (b g : ℕ) (eg : g ≡ opposite c.side2) (eb : b ≡ bestOwn v c.series2 g) where
-      two : b ≡ bestOwn v c.series2 (opposite c.side2)
-      two = eb ∙ ap (bestOwn v c.series2) eg
+    module _ (m : a ≡ 0 → ⊥) (b g : ℕ) (eg : g ≡ opposite c.side2) (eb : b ≡ best_own v c.series2 g) where
+      two : b ≡ best_own v c.series2 (opposite c.side2)
+      two = eb ∙ ap (best_own v c.series2) eg
 
       pub touch-none2 : b ≡ 0 → false ≡ touches v c
       unfolding touches
@@ -47,31 +47,31 @@ module _ (v : Venue) (c : Complex) where
 
 -- A unit --------------------------------------------------------------------------------------
 
-module _ (v : Venue) (c : Complex) (a f : ℕ) (ef : f ≡ opposite c.side1) (ea : a ≡ ownSize v c.series1 f) where
-  size1 : a ≡ ownSize v c.series1 (opposite c.side1)
-  size1 = ea ∙ ap (ownSize v c.series1) ef
+module _ (v : Venue) (c : Complex) (a f : ℕ) (ef : f ≡ opposite c.side1) (ea : a ≡ own_size v c.series1 f) where
+  size1 : a ≡ own_size v c.series1 (opposite c.side1)
+  size1 = ea ∙ ap (own_size v c.series1) ef
 
-  pub unit-short : a < c.ratio1 → false ≡ fillsUnit v c
-  unfolding fillsUnit
+  pub unit-short : a < c.ratio1 → false ≡ fills_unit v c
+  unfolding fills_unit
   unit-short h = rw (← size1, lt-leb c.ratio1 a h)
 
-  pub unit-second : c.ratio1 ≤ a → (b g : ℕ) → g ≡ opposite c.side2 → b ≡ ownSize v c.series2 g → leb c.ratio2 b ≡ fillsUnit v c
-  unfolding fillsUnit
-  unit-second h b g eg eb = rw (← size1, le-leb c.ratio1 a h) (ap (leb c.ratio2) (eb ∙ ap (ownSize v c.series2) eg))
+  pub unit-second : c.ratio1 ≤ a → (b g : ℕ) → g ≡ opposite c.side2 → b ≡ own_size v c.series2 g → leb c.ratio2 b ≡ fills_unit v c
+  unfolding fills_unit
+  unit-second h b g eg eb = rw (← size1, le-leb c.ratio1 a h) (ap (leb c.ratio2) (eb ∙ ap (own_size v c.series2) eg))
 
 -- The touch -----------------------------------------------------------------------------------
 
-module _ (i : ℕ) (v : Venue) (c : Complex) (e : c ≡ complexAt v i) where
+module _ (i : ℕ) (v : Venue) (c : Complex) (e : c ≡ complex_at v i) where
   pub touch-not : (l : List ℕ) (at : ℕ) → touches v c ≡ false → stage v l at ≡ seen l at does touch i v
   unfolding touch
   touch-not l at h = rw (← e, h) (does-nothing v l at)
 
-  pub touch-both : (w : Venue) (l₀ l₁ : List ℕ) (a₀ a₁ : ℕ) → touches v c ≡ true → (x : Cause) → x ≡ (if fillsUnit v c then Touched else NoUnit) → (p q f g : ℕ) →
-      f ≡ opposite c.side1 → p ≡ placeOf c.series1 f → g ≡ opposite c.side2 → q ≡ placeOf c.series2 g →
-      stage w l₁ a₁ ≡ seen l₀ a₀ does remove (λ n _. failIf (eqb n p || eqb n q) x) v → stage w l₁ a₁ ≡ seen l₀ a₀ does touch i v
-  unfolding touch takenSide
+  pub touch-both : (w : Venue) (l₀ l₁ : List ℕ) (a₀ a₁ : ℕ) → touches v c ≡ true → (x : Cause) → x ≡ (if fills_unit v c then Touched else NoUnit) → (p q f g : ℕ) →
+      f ≡ opposite c.side1 → p ≡ place_of c.series1 f → g ≡ opposite c.side2 → q ≡ place_of c.series2 g →
+      stage w l₁ a₁ ≡ seen l₀ a₀ does remove (λ n _. fail_if (eqb n p || eqb n q) x) v → stage w l₁ a₁ ≡ seen l₀ a₀ does touch i v
+  unfolding touch taken_side
   touch-both w l₀ l₁ a₀ a₁ h x ex p q f g ef ep eg eq r =
       rw (← e, h)
-      (r ∙ ap₂ (λ (y z : ℕ). seen l₀ a₀ does remove (λ n _. failIf (eqb n y || eqb n z) x) v)
-      (ep ∙ ap (placeOf c.series1) ef) (eq ∙ ap (placeOf c.series2) eg)
-      ∙ ap (λ (y : Cause). seen l₀ a₀ does remove (λ n _. failIf (takenSide c n) y) v) ex)
+      (r ∙ ap₂ (λ (y z : ℕ). seen l₀ a₀ does remove (λ n _. fail_if (eqb n y || eqb n z) x) v)
+      (ep ∙ ap (place_of c.series1) ef) (eq ∙ ap (place_of c.series2) eg)
+      ∙ ap (λ (y : Cause). seen l₀ a₀ does remove (λ n _. fail_if (taken_side c n) y) v) ex)

@@ -2,12 +2,12 @@
 ghost use Rattle.std.specs.Prelude.{◌≡◌, pos};
 ghost use Rattle.rules.specs.declared.Cause.TheVariants.{Touched, NoUnit};
 ghost use Rattle.rules.specs.Base.{if◌then◌else◌, first};
-ghost use Rattle.rules.specs.Words.{complexAt};
+ghost use Rattle.rules.specs.Words.{complex_at};
 ghost use Rattle.rules.specs.Effects.{repeat};
-ghost use Rattle.rules.specs.Complex.{crosses, cross, crossTurn, touches, fillsUnit, touch};
+ghost use Rattle.rules.specs.Complex.{crosses, cross, cross_turn, touches, fills_unit, touch};
 ghost use Rattle.records.specs.Seen.{seen};
 ghost use Rattle.records.specs.Stage.{stage, ◌does◌};
-ghost use Rattle.places.specs.Layout.{venueOf, SameCounts};
+ghost use Rattle.places.specs.Layout.{venue_of, SameCounts};
 ghost use Rattle.levels.specs.Requirements.{TakenReady};
 ghost use Rattle.places.specs.Requirements.{ComplexesReady, RightComplex};
 
@@ -19,7 +19,7 @@ use rules::{Cause, Complex};
 // The orders at places i (taker) and j (maker) cross for k units at the maker's limit. The taker's legging orders go, then the maker's.
 pub fn cross(numbers: &mut [u32], i: usize, j: usize, k: u32, out: &mut [u8], at: usize) -> usize
     requires { ComplexesReady numbers.old i j }
-    ensures result_after { stage (venueOf numbers.new) out.new result ≡ seen out.old at does cross i j k (venueOf numbers.old) }
+    ensures result_after { stage (venue_of numbers.new) out.new result ≡ seen out.old at does cross i j k (venue_of numbers.old) }
     ensures counts { SameCounts numbers.old numbers.new }
 {
     let c = places::complex_at(numbers, i);
@@ -34,7 +34,7 @@ pub fn cross(numbers: &mut [u32], i: usize, j: usize, k: u32, out: &mut [u8], at
 // The order at place i crosses while there is an order that it can cross with.
 pub fn cross_all(numbers: &mut [u32], i: usize, out: &mut [u8], at: usize) -> usize
     requires { RightComplex numbers.old i }
-    ensures result_after { stage (venueOf numbers.new) out.new result ≡ seen out.old at does repeat (complexAt (venueOf numbers.old) i).quantity (crossTurn i) (venueOf numbers.old) }
+    ensures result_after { stage (venue_of numbers.new) out.new result ≡ seen out.old at does repeat (complex_at (venue_of numbers.old) i).quantity (cross_turn i) (venue_of numbers.old) }
     ensures counts { SameCounts numbers.old numbers.new }
 {
     let taker = places::complex_at(numbers, i);
@@ -58,7 +58,7 @@ pub fn cross_all(numbers: &mut [u32], i: usize, out: &mut [u8], at: usize) -> us
 // The net of the best own prices that c would take is at most its limit.
 fn can_touch(numbers: &[u32], taken: TakenLevels, c: Complex) -> bool
     requires { TakenReady numbers.now taken c }
-    ensures { result ≡ touches (venueOf numbers.now) c }
+    ensures { result ≡ touches (venue_of numbers.now) c }
 {
     if c.quantity == 0 {
         return false;
@@ -90,7 +90,7 @@ fn can_touch(numbers: &[u32], taken: TakenLevels, c: Complex) -> bool
 // The sizes at the best own prices that c would take fill a unit of it.
 fn fills_unit(numbers: &[u32], taken: TakenLevels, c: Complex) -> bool
     requires { TakenReady numbers.now taken c }
-    ensures { result ≡ fillsUnit (venueOf numbers.now) c }
+    ensures { result ≡ fills_unit (venue_of numbers.now) c }
 {
     let one = taken.first;
     let first = prices::own_size(numbers, one, c.series1, arithmetic::opposite_of(c.side1));
@@ -105,7 +105,7 @@ fn fills_unit(numbers: &[u32], taken: TakenLevels, c: Complex) -> bool
 // Why the legging orders that c touches go.
 fn touch_cause(numbers: &[u32], taken: TakenLevels, c: Complex) -> Cause
     requires { TakenReady numbers.now taken c }
-    ensures { result ≡ (if fillsUnit (venueOf numbers.now) c then Touched else NoUnit) }
+    ensures { result ≡ (if fills_unit (venue_of numbers.now) c then Touched else NoUnit) }
 {
     if fills_unit(numbers, taken, c) {
         return Cause::Touched;
@@ -116,7 +116,7 @@ fn touch_cause(numbers: &[u32], taken: TakenLevels, c: Complex) -> Cause
 // Where the order at place i touches, the legging orders at the two sides that it would take go.
 pub fn touch(numbers: &mut [u32], i: usize, out: &mut [u8], at: usize) -> usize
     requires { RightComplex numbers.old i }
-    ensures result_after { stage (venueOf numbers.new) out.new result ≡ seen out.old at does touch i (venueOf numbers.old) }
+    ensures result_after { stage (venue_of numbers.new) out.new result ≡ seen out.old at does touch i (venue_of numbers.old) }
     ensures counts { SameCounts numbers.old numbers.new }
 {
     let c = places::complex_at(numbers, i);

@@ -15,12 +15,12 @@ use Rattle.rules.specs.declared.Message.TheVariants.{Order, TwoLeg}
 use Rattle.rules.specs.declared.Regular.{Regular}
 use Rattle.rules.specs.declared.Venue.{Venue}
 use Rattle.rules.specs.Base.{held}
-use Rattle.rules.specs.Words.{noComplex, noRegular}
-use Rattle.rules.specs.Messages.{messageOf}
+use Rattle.rules.specs.Words.{no_complex, no_regular}
+use Rattle.rules.specs.Messages.{message_of}
 use Rattle.rules.specs.Records.{ForAll, Report, FourBytes, answer}
 use Rattle.rules.specs.Effects.{Effect}
 use Rattle.rules.specs.Sound.{follows}
-use Rattle.rules.specs.Sums.{cancelledOf, contracts, crossedFor, openComplex, openRegular, paired, total}
+use Rattle.rules.specs.Sums.{cancelled_of, contracts, crossed_for, open_complex, open_regular, paired, total}
 use Rattle.demands.specs.Demand.{Accepted, Seen, start}
 use Rattle.rules.proofs.Adding.{open_none, total-append}
 use Rattle.rules.proofs.Filling.{cx, reg}
@@ -37,7 +37,7 @@ use Rattle.demands.proofs.Homes.{Fine, Good, Invariant}
 pub record OrderAccount (s : Seen) (o : Regular) : Type 0 where
   pub known : o.id ≤ s.venue.last
   pub own : RegularId o.id o.series s.venue
-  pub adds : o.quantity ≡ total (contracts o.id o.series) s.reports + total (cancelledOf o.id) s.reports + openRegular o.id s.venue.regular
+  pub adds : o.quantity ≡ total (contracts o.id o.series) s.reports + total (cancelled_of o.id) s.reports + open_regular o.id s.venue.regular
 
 -- of an accepted complex order: its contracts in each series are its pairs by the leg's ratio
 pub record ComplexAccount (s : Seen) (c : Complex) : Type 0 where
@@ -45,14 +45,14 @@ pub record ComplexAccount (s : Seen) (c : Complex) : Type 0 where
   pub own : ComplexId c s.venue
   pub first : total (contracts c.id c.series1) s.reports ≡ c.ratio1 * total (paired c.id) s.reports
   pub second : total (contracts c.id c.series2) s.reports ≡ c.ratio2 * total (paired c.id) s.reports
-  pub adds : c.quantity ≡ total (paired c.id) s.reports + total (crossedFor c.id) s.reports + total (cancelledOf c.id) s.reports + openComplex c.id s.venue.complex
+  pub adds : c.quantity ≡ total (paired c.id) s.reports + total (crossed_for c.id) s.reports + total (cancelled_of c.id) s.reports + open_complex c.id s.venue.complex
 
 -- records name no id y
 pub record Unnamed (y : ℕ) (rs : List Report) : Type 0 where
   pub contracts0 : (s : ℕ) → total (contracts y s) rs ≡ 0
   pub paired0 : total (paired y) rs ≡ 0
-  pub crossed0 : total (crossedFor y) rs ≡ 0
-  pub cancelled0 : total (cancelledOf y) rs ≡ 0
+  pub crossed0 : total (crossed_for y) rs ≡ 0
+  pub cancelled0 : total (cancelled_of y) rs ≡ 0
 
 pub record Account (s : Seen) : Type 0 where
   pub invariant : Invariant s.venue
@@ -71,8 +71,8 @@ moved-above {v} {w} {qs} g m y lt =
     let nx : (i : ℕ) → held (cx v i).quantity ≡ true → (cx v i).id ≡ y → ⊥ = λ i h e. (let z = g.xlast i h in omega arith) in
     let r : (s : ℕ) → RegularId y s v = λ s. record { home = λ i h e. absurd (nr i h e); alone = λ i j h k e q. absurd (nr i h e); none = nx } in
     let x : ComplexId (named y) v = record { home = λ i h e. absurd (nx i h e); alone = λ i j h k e q. absurd (nx i h e); none = nr } in
-    let a = open_none noRegular (λ o. o.id) (λ o. o.quantity) y v.regular nr in
-    let b = open_none noComplex (λ c. c.id) (λ c. c.quantity) y v.complex nx in
+    let a = open_none no_regular (λ o. o.id) (λ o. o.quantity) y v.regular nr in
+    let b = open_none no_complex (λ c. c.id) (λ c. c.quantity) y v.complex nx in
     let p = (m.complexes (named y) x).falls in
     record {
       contracts0 = λ s. (let q = m.orders y s (r s) in omega arith);
@@ -120,7 +120,7 @@ pub record Takes (v : Venue) (qs : List Report) (w : Venue) (ms : List Message) 
 -- the message bs, and its effect e: what it brings in, its records with its 64 first, and the venue that is returned
 module _ {s : Seen} {u : Venue} {ns : List Message} (bs : List ℕ) {e : Effect} (a : Account s) (t : Takes s.venue e.reports u ns) (z : Ends u e.venue)
     (x k l : ℕ) (es : List Report) (is : e.reports ≡ answer (suc s.done) x k l ∷ es) (quiet : ForAll NoAnswer es)
-    (brings : x ≡ 0 → ns ≡ messageOf bs ∷ []) (invariant : Invariant e.venue) (few : FourBytes (suc s.done))
+    (brings : x ≡ 0 → ns ≡ message_of bs ∷ []) (invariant : Invariant e.venue) (few : FourBytes (suc s.done))
     (next : follows (suc (suc s.done)) e.venue ≡ true) where
   abbrev qs : List Report
   qs = e.reports
@@ -133,12 +133,12 @@ module _ {s : Seen} {u : Venue} {ns : List Message} (bs : List ℕ) {e : Effect}
   old-order o x =
       let r = t.admitted.regs _ _ x.known x.own in
       let p = t.moved.orders _ _ r in
-      let q = t.admitted.openR _ x.known in
+      let q = t.admitted.open_r _ x.known in
       record {
         known = let l = t.admitted.later in let e = last-is in let k = x.known in omega arith;
         own = z.regs _ _ (reg-kept t.moved.regular t.moved.complex r);
-        adds = rw (total-append (contracts o.id o.series) s.reports qs, total-append (cancelledOf o.id) s.reports qs)
-            (let y = x.adds in let g = z.openR o.id in omega arith);
+        adds = rw (total-append (contracts o.id o.series) s.reports qs, total-append (cancelled_of o.id) s.reports qs)
+            (let y = x.adds in let g = z.open_r o.id in omega arith);
       }
 
   new-order : (o : Regular) → NewOrder s.venue t.start o → OrderAccount (onto s bs e) o
@@ -149,8 +149,8 @@ module _ {s : Seen} {u : Venue} {ns : List Message} (bs : List ℕ) {e : Effect}
       record {
         known = let e = last-is in let k = x.known in omega arith;
         own = z.regs _ _ (reg-kept t.moved.regular t.moved.complex x.own);
-        adds = rw (total-append (contracts o.id o.series) s.reports qs, total-append (cancelledOf o.id) s.reports qs)
-            (let y = x.whole in let c = f.contracts0 o.series in let g = z.openR o.id in omega arith);
+        adds = rw (total-append (contracts o.id o.series) s.reports qs, total-append (cancelled_of o.id) s.reports qs)
+            (let y = x.whole in let c = f.contracts0 o.series in let g = z.open_r o.id in omega arith);
       }
 
   old-complex : (c : Complex) → ComplexAccount s c → ComplexAccount (onto s bs e) c
@@ -164,7 +164,7 @@ module _ {s : Seen} {u : Venue} {ns : List Message} (bs : List ℕ) {e : Effect}
         own = z.cxs _ (cx-kept t.moved.regular t.moved.complex r);
         first = rw (total-append (contracts c.id c.series1) s.reports qs, total-append (paired c.id) s.reports qs) (ratio-then c.ratio1 _ _ _ _ x.first p.first);
         second = rw (total-append (contracts c.id c.series2) s.reports qs, total-append (paired c.id) s.reports qs) (ratio-then c.ratio2 _ _ _ _ x.second p.second);
-        adds = rw (total-append (paired c.id) s.reports qs, total-append (crossedFor c.id) s.reports qs, total-append (cancelledOf c.id) s.reports qs)
+        adds = rw (total-append (paired c.id) s.reports qs, total-append (crossed_for c.id) s.reports qs, total-append (cancelled_of c.id) s.reports qs)
             (let y = x.adds in let f = p.falls in let g = z.open_c c.id in omega arith);
       }
 
@@ -180,7 +180,7 @@ module _ {s : Seen} {u : Venue} {ns : List Message} (bs : List ℕ) {e : Effect}
             (ratio-then c.ratio1 _ _ _ _ (ratio-none c.ratio1 _ _ (f.contracts0 c.series1) f.paired0) p.first);
         second = rw (total-append (contracts c.id c.series2) s.reports qs, total-append (paired c.id) s.reports qs)
             (ratio-then c.ratio2 _ _ _ _ (ratio-none c.ratio2 _ _ (f.contracts0 c.series2) f.paired0) p.second);
-        adds = rw (total-append (paired c.id) s.reports qs, total-append (crossedFor c.id) s.reports qs, total-append (cancelledOf c.id) s.reports qs)
+        adds = rw (total-append (paired c.id) s.reports qs, total-append (crossed_for c.id) s.reports qs, total-append (cancelled_of c.id) s.reports qs)
             (let y = x.whole in let h = p.falls in let g = z.open_c c.id in omega arith);
       }
 
@@ -195,7 +195,7 @@ module _ {s : Seen} {u : Venue} {ns : List Message} (bs : List ℕ) {e : Effect}
           let c = a.count in
           inl (record {
             before = y.before;
-            is = ap messageOf (sym (get_or-append s.messages (bs ∷ []) [] y.before (omega arith))) ∙ y.is;
+            is = ap message_of (sym (get_or-append s.messages (bs ∷ []) [] y.before (omega arith))) ∙ y.is;
             mask = y.mask;
             count = y.count;
             told = h;
@@ -204,7 +204,7 @@ module _ {s : Seen} {u : Venue} {ns : List Message} (bs : List ℕ) {e : Effect}
         | inl q ↦
             let n = same_number q in
             let b : length s.messages ≡ y.before = (let i = n.0 in let c = a.count in omega arith) in
-            let m=bs = ap messageOf (sym (get_or_at s.messages bs [] [] y.before b)) ∙ y.is in
+            let m=bs = ap message_of (sym (get_or_at s.messages bs [] [] y.before b)) ∙ y.is in
             inr (subst (λ (q : List Message). Memᴰ m q) (sym (brings (sym n.1))) (Memᴰ.head (sym m=bs)))
         | inr q ↦ absurd (no_answer _ _ _ _ es quiet q)
       ]
@@ -227,8 +227,8 @@ module _ {s : Seen} {u : Venue} {ns : List Message} (bs : List ℕ) {e : Effect}
       record {
         contracts0 = λ r. rw (total-append (contracts y r) s.reports qs, b.contracts0 r, n.contracts0 r);
         paired0 = rw (total-append (paired y) s.reports qs, b.paired0, n.paired0);
-        crossed0 = rw (total-append (crossedFor y) s.reports qs, b.crossed0, n.crossed0);
-        cancelled0 = rw (total-append (cancelledOf y) s.reports qs, b.cancelled0, n.cancelled0);
+        crossed0 = rw (total-append (crossed_for y) s.reports qs, b.crossed0, n.crossed0);
+        cancelled0 = rw (total-append (cancelled_of y) s.reports qs, b.cancelled0, n.cancelled0);
       }
 
   pub advance : Account (onto s bs e)

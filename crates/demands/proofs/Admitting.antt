@@ -14,10 +14,10 @@ use Rattle.rules.specs.declared.Regular.{Regular}
 use Rattle.rules.specs.declared.Venue.{Venue}
 use Rattle.rules.specs.declared.Verdict.TheVariants.{Stands}
 use Rattle.rules.specs.Base.{held, if◌then◌else◌}
-use Rattle.rules.specs.Words.{noComplex, noRegular, opposite, placeOf, withComplex, with_last, withRegular}
-use Rattle.rules.specs.Standing.{otherLeg, otherSize, pairs, parentOf, verdict, verdictOf}
+use Rattle.rules.specs.Words.{no_complex, no_regular, opposite, place_of, with_complex, with_last, with_regular}
+use Rattle.rules.specs.Standing.{other_leg, other_size, pairs, parent_of, verdict, verdict_of}
 use Rattle.rules.specs.Sound.{apart}
-use Rattle.rules.specs.Sums.{openComplex, openRegular}
+use Rattle.rules.specs.Sums.{open_complex, open_regular}
 use Rattle.rules.proofs.Adding.{open_none, open-put}
 use Rattle.rules.proofs.Filling.{SameLegs, cx, lg, reg, same-legs}
 use Rattle.rules.proofs.Generating.{AllStand, place-series}
@@ -37,8 +37,8 @@ pub record Admitted (v w : Venue) : Type 0 where
   pub later : v.last ≤ w.last
   pub regs : (y s : ℕ) → y ≤ v.last → RegularId y s v → RegularId y s w
   pub cxs : (m : Complex) → m.id ≤ v.last → ComplexId m v → ComplexId m w
-  pub openR : (y : ℕ) → y ≤ v.last → openRegular y w.regular ≡ openRegular y v.regular
-  pub open_c : (y : ℕ) → y ≤ v.last → openComplex y w.complex ≡ openComplex y v.complex
+  pub open_r : (y : ℕ) → y ≤ v.last → open_regular y w.regular ≡ open_regular y v.regular
+  pub open_c : (y : ℕ) → y ≤ v.last → open_complex y w.complex ≡ open_complex y v.complex
 
 -- nothing is brought in
 pub admitted-none : {v : Venue} → Fine v → Admitted v v
@@ -47,7 +47,7 @@ admitted-none f = record {
   later = omega arith;
   regs = λ y s le r. r;
   cxs = λ m le r. r;
-  openR = λ y le. refl;
+  open_r = λ y le. refl;
   open_c = λ y le. refl;
 }
 
@@ -56,24 +56,24 @@ pub record NewOrder (v v₀ : Venue) (o : Regular) : Type 0 where
   pub new : v.last < o.id
   pub known : o.id ≤ v₀.last
   pub own : RegularId o.id o.series v₀
-  pub whole : openRegular o.id v₀.regular ≡ o.quantity
+  pub whole : open_regular o.id v₀.regular ≡ o.quantity
 
 pub record NewComplex (v v₀ : Venue) (c : Complex) : Type 0 where
   pub new : v.last < c.id
   pub known : c.id ≤ v₀.last
   pub own : ComplexId c v₀
-  pub whole : openComplex c.id v₀.complex ≡ c.quantity
+  pub whole : open_complex c.id v₀.complex ≡ c.quantity
 
 -- what stands can be paid for
-stands-pays : (v : Venue) (s d : ℕ) → Fine v → AllStand v → d < 2 → held (lg v (placeOf s d)).quantity ≡ true → Pays v s (lg v (placeOf s d))
+stands-pays : (v : Venue) (s d : ℕ) → Fine v → AllStand v → d < 2 → held (lg v (place_of s d)).quantity ≡ true → Pays v s (lg v (place_of s d))
 unfolding AllStand verdict pairs
 stands-pays v s d f st d2 h =
-    let n = placeOf s d in
-    let c = parentOf v (lg v n) in
-    let a : verdictOf v c (n / 2) (n % 2) (lg v n) ≡ Stands = rw h at (st n) in
+    let n = place_of s d in
+    let c = parent_of v (lg v n) in
+    let a : verdict_of v c (n / 2) (n % 2) (lg v n) ≡ Stands = rw h at (st n) in
     let q = rw (place-series s d d2) at (passed a).pair in
-    let apart : n / 2 ≢ (otherLeg c (n / 2)).series = rw (parent-found v f n h) (other-apart v f n h) in
-    let size : leb (lg v n).quantity (otherSize v c s) ≡ true = search (and_l, and_r, q) in
+    let apart : n / 2 ≢ (other_leg c (n / 2)).series = rw (parent-found v f n h) (other-apart v f n h) in
+    let size : leb (lg v n).quantity (other_size v c s) ≡ true = search (and_l, and_r, q) in
     record {
       apart = rw (place-series s d d2) at apart;
       clear = search (and_l, and_r, q);
@@ -91,8 +91,8 @@ pub record Joins (v : Venue) (o : Regular) (i : ℕ) : Type 0 where
   pub behind : (n : ℕ) → held (reg v n).quantity ≡ true → n < i
 
 module _ (v : Venue) (o : Regular) (i : ℕ) where
-  abbrev pub withOrder : Venue
-  withOrder = withRegular (with_last v o.id) (set v.regular i o)
+  abbrev pub with_order : Venue
+  with_order = with_regular (with_last v o.id) (set v.regular i o)
 
   module _ (joins : Joins v o i) where
     fits : i < length v.regular
@@ -107,61 +107,61 @@ module _ (v : Venue) (o : Regular) (i : ℕ) where
     abbrev quantity-of : Regular → ℕ
     quantity-of x = x.quantity
 
-    order-fine : Fine withOrder
-    unfolding withRegular with_last
+    order-fine : Fine with_order
+    unfolding with_regular with_last
     order-fine = record {
       good = record {
         len1 = length-set v.regular i o ∙ joins.fine.good.len1;
         len2 = joins.fine.good.len2;
         ranges = joins.fine.good.ranges;
-        rise1 = put-rises noRegular id-of quantity-of v.regular i o fits lower joins.behind joins.fine.good.rise1;
+        rise1 = put-rises no_regular id-of quantity-of v.regular i o fits lower joins.behind joins.fine.good.rise1;
         rise2 = joins.fine.good.rise2;
         rx = λ a j h k e.
             (let z = joins.fine.good.xlast j k in
-            let x = put-old noRegular id-of quantity-of v.regular i o fits lower (cx v j).id a (omega arith) h e in
+            let x = put-old no_regular id-of quantity-of v.regular i o fits lower (cx v j).id a (omega arith) h e in
             joins.fine.good.rx a j x.0 k (sym (ap id-of x.1) ∙ e));
-        rlast = put-most noRegular id-of quantity-of v.regular i o fits lower;
+        rlast = put-most no_regular id-of quantity-of v.regular i o fits lower;
         xlast = λ j h. let z = joins.fine.good.xlast j h in omega arith;
       };
       homes = homes_same refl refl joins.fine.homes;
     }
 
-    alone : (a b : ℕ) → held (reg withOrder a).quantity ≡ true → held (reg withOrder b).quantity ≡ true → (reg withOrder a).id ≡ (reg withOrder b).id → a ≡ b
-    unfolding withRegular with_last
-    alone = put_alone noRegular id-of quantity-of v.regular i o fits lower (good-rr joins.fine.good)
+    alone : (a b : ℕ) → held (reg with_order a).quantity ≡ true → held (reg with_order b).quantity ≡ true → (reg with_order a).id ≡ (reg with_order b).id → a ≡ b
+    unfolding with_regular with_last
+    alone = put_alone no_regular id-of quantity-of v.regular i o fits lower (good-rr joins.fine.good)
 
     -- its id is its own
-    order-reg : RegularId o.id o.series withOrder
-    unfolding withRegular with_last
+    order-reg : RegularId o.id o.series with_order
+    unfolding with_regular with_last
     order-reg = record {
-      home = λ a h e. ap (λ (x : Regular). x.series) (put-new noRegular id-of quantity-of v.regular i o fits lower a h e);
+      home = λ a h e. ap (λ (x : Regular). x.series) (put-new no_regular id-of quantity-of v.regular i o fits lower a h e);
       alone = λ a b h k p q. alone a b h k (p ∙ sym q);
       none = λ j h e. let z = joins.fine.good.xlast j h in omega arith;
     }
 
     -- and the others' are theirs
-    old : (y a : ℕ) → y ≤ v.last → held (reg withOrder a).quantity ≡ true → (reg withOrder a).id ≡ y → (held (reg v a).quantity ≡ true) × (reg withOrder a ≡ reg v a)
-    unfolding withRegular with_last
-    old y a le h e = put-old noRegular id-of quantity-of v.regular i o fits lower y a (omega arith) h e
+    old : (y a : ℕ) → y ≤ v.last → held (reg with_order a).quantity ≡ true → (reg with_order a).id ≡ y → (held (reg v a).quantity ≡ true) × (reg with_order a ≡ reg v a)
+    unfolding with_regular with_last
+    old y a le h e = put-old no_regular id-of quantity-of v.regular i o fits lower y a (omega arith) h e
 
-    order-keeps-reg : (y s : ℕ) → y ≤ v.last → RegularId y s v → RegularId y s withOrder
-    unfolding withRegular with_last
+    order-keeps-reg : (y s : ℕ) → y ≤ v.last → RegularId y s v → RegularId y s with_order
+    unfolding with_regular with_last
     order-keeps-reg y s le r = record {
       home = λ a h e. (let x = old y a le h e in ap (λ (z : Regular). z.series) x.1 ∙ r.home a x.0 (sym (ap id-of x.1) ∙ e));
       alone = λ a b h k p q. alone a b h k (p ∙ sym q);
       none = r.none;
     }
 
-    order-keeps-cx : (m : Complex) → m.id ≤ v.last → ComplexId m v → ComplexId m withOrder
-    unfolding withRegular with_last
+    order-keeps-cx : (m : Complex) → m.id ≤ v.last → ComplexId m v → ComplexId m with_order
+    unfolding with_regular with_last
     order-keeps-cx m le r = record {
       home = r.home;
       alone = r.alone;
       none = λ a h e. (let x = old m.id a le h e in r.none a x.0 (sym (ap id-of x.1) ∙ e));
     }
 
-    order-elsewhere : Elsewhere o.series v withOrder
-    unfolding withRegular with_last
+    order-elsewhere : Elsewhere o.series v with_order
+    unfolding with_regular with_last
     order-elsewhere = record {
       best = λ t e ne. best-set t e v.regular i o (free-shows t e _ joins.free) (not_there t e o ne);
       size = λ t e p ne. size-set t e p v.regular i o (no-price t e p _ (free-shows t e _ joins.free)) (no-price t e p o (not_there t e o ne));
@@ -173,39 +173,39 @@ module _ (v : Venue) (o : Regular) (i : ℕ) where
     unfolding opposite
     opposite-small d = omega arith
 
-    pub at_i : reg withOrder i ≡ o
-    unfolding withRegular with_last
-    at_i = get_or-set_same v.regular i o noRegular fits
+    pub at_i : reg with_order i ≡ o
+    unfolding with_regular with_last
+    at_i = get_or-set_same v.regular i o no_regular fits
 
-    pub order-ready : AllStand v → Ready i o.series o.side withOrder
+    pub order-ready : AllStand v → Ready i o.series o.side with_order
     order-ready st = record {
       fits = joins.there;
       series = ap (λ (x : Regular). x.series) at_i;
       side = ap (λ (x : Regular). x.side) at_i;
       small = opposite-small o.side;
-      pays = pays-there order-elsewhere (placeOf o.series (opposite o.side)) (stands-pays v o.series (opposite o.side) joins.fine st (opposite-small o.side));
+      pays = pays-there order-elsewhere (place_of o.series (opposite o.side)) (stands-pays v o.series (opposite o.side) joins.fine st (opposite-small o.side));
     }
 
-    order_open : (y : ℕ) → openRegular y withOrder.regular ≡ openRegular y v.regular + (if eqb o.id y then o.quantity else 0)
-    unfolding withRegular with_last
-    order_open y = open-put noRegular id-of quantity-of y v.regular i o fits (free-none _ joins.free)
+    order_open : (y : ℕ) → open_regular y with_order.regular ≡ open_regular y v.regular + (if eqb o.id y then o.quantity else 0)
+    unfolding with_regular with_last
+    order_open y = open-put no_regular id-of quantity-of y v.regular i o fits (free-none _ joins.free)
 
-    pub order-admitted : Admitted v withOrder
-    unfolding withRegular with_last
+    pub order-admitted : Admitted v with_order
+    unfolding with_regular with_last
     order-admitted = record {
       fine = order-fine;
       later = (let z = joins.new in omega arith);
       regs = order-keeps-reg;
       cxs = order-keeps-cx;
-      openR = λ y le. (let z = order_open y in omega (arith, rw (ne_eqb o.id y (λ e. (let u = joins.new in omega arith))) at z));
+      open_r = λ y le. (let z = order_open y in omega (arith, rw (ne_eqb o.id y (λ e. (let u = joins.new in omega arith))) at z));
       open_c = λ y le. refl;
     }
 
-    none_yet : openRegular o.id v.regular ≡ 0
-    none_yet = open_none noRegular id-of quantity-of o.id v.regular (λ n h e. (let z = lower n h in omega arith))
+    none_yet : open_regular o.id v.regular ≡ 0
+    none_yet = open_none no_regular id-of quantity-of o.id v.regular (λ n h e. (let z = lower n h in omega arith))
 
-    pub order-new : NewOrder v withOrder o
-    unfolding withRegular with_last
+    pub order-new : NewOrder v with_order o
+    unfolding with_regular with_last
     order-new = record {
       new = joins.new;
       known = omega arith;
@@ -224,107 +224,107 @@ pub record JoinsC (v : Venue) (c : Complex) (i : ℕ) : Type 0 where
   pub behind : (n : ℕ) → held (cx v n).quantity ≡ true → n < i
 
 module _ (v : Venue) (c : Complex) (i : ℕ) where
-  abbrev pub withComplexOrder : Venue
-  withComplexOrder = withComplex (with_last v c.id) (set v.complex i c)
+  abbrev pub with_complex_order : Venue
+  with_complex_order = with_complex (with_last v c.id) (set v.complex i c)
 
   module _ (joins : JoinsC v c i) where
-    fitsC : i < length v.complex
-    fitsC = rw joins.fine.good.len2 joins.there
+    fits_c : i < length v.complex
+    fits_c = rw joins.fine.good.len2 joins.there
 
-    lowerC : (n : ℕ) → held (cx v n).quantity ≡ true → (cx v n).id < c.id
-    lowerC n h = let z = joins.fine.good.xlast n h in omega arith
+    lower_c : (n : ℕ) → held (cx v n).quantity ≡ true → (cx v n).id < c.id
+    lower_c n h = let z = joins.fine.good.xlast n h in omega arith
 
-    abbrev id-ofC : Complex → ℕ
-    id-ofC x = x.id
+    abbrev id-of_c : Complex → ℕ
+    id-of_c x = x.id
 
-    abbrev quantity-ofC : Complex → ℕ
-    quantity-ofC x = x.quantity
+    abbrev quantity-of_c : Complex → ℕ
+    quantity-of_c x = x.quantity
 
     -- no legging order has its home at a free place
-    home-old : (n : ℕ) (l : Legging) → held l.quantity ≡ true → Home v n l → Home withComplexOrder n l
-    unfolding withComplex with_last
+    home-old : (n : ℕ) (l : Legging) → held l.quantity ≡ true → Home v n l → Home with_complex_order n l
+    unfolding with_complex with_last
     home-old n l h o =
         let ne : o.at ≢ i = λ e. (let z = held-pos l.quantity h in let y = o.enough in let w = free-none (cx v i).quantity joins.free in
         let u : (cx v o.at).quantity ≡ (cx v i).quantity = ap (λ (m : ℕ). (cx v m).quantity) e in omega arith) in
-        let s = get_or-set_other v.complex i o.at c noComplex ne in
+        let s = get_or-set_other v.complex i o.at c no_complex ne in
         record { at = o.at; fits = rw length-set o.fits; id = rw s o.id; leg = rw s o.leg; even = rw s o.even; enough = rw s o.enough }
 
-    complex-fine : Fine withComplexOrder
-    unfolding withComplex with_last
+    complex-fine : Fine with_complex_order
+    unfolding with_complex with_last
     complex-fine = record {
       good = record {
         len1 = joins.fine.good.len1;
         len2 = length-set v.complex i c ∙ joins.fine.good.len2;
-        ranges = put-each noComplex id-ofC quantity-ofC v.complex i c fitsC lowerC InRange joins.range joins.fine.good.ranges;
+        ranges = put-each no_complex id-of_c quantity-of_c v.complex i c fits_c lower_c InRange joins.range joins.fine.good.ranges;
         rise1 = joins.fine.good.rise1;
-        rise2 = put-rises noComplex id-ofC quantity-ofC v.complex i c fitsC lowerC joins.behind joins.fine.good.rise2;
+        rise2 = put-rises no_complex id-of_c quantity-of_c v.complex i c fits_c lower_c joins.behind joins.fine.good.rise2;
         rx = λ a j h k e.
             (let z = joins.fine.good.rlast a h in
-            let x = put-old noComplex id-ofC quantity-ofC v.complex i c fitsC lowerC (reg v a).id j (omega arith) k (sym e) in
-            joins.fine.good.rx a j h x.0 (e ∙ ap id-ofC x.1));
+            let x = put-old no_complex id-of_c quantity-of_c v.complex i c fits_c lower_c (reg v a).id j (omega arith) k (sym e) in
+            joins.fine.good.rx a j h x.0 (e ∙ ap id-of_c x.1));
         rlast = λ a h. let z = joins.fine.good.rlast a h in omega arith;
-        xlast = put-most noComplex id-ofC quantity-ofC v.complex i c fitsC lowerC;
+        xlast = put-most no_complex id-of_c quantity-of_c v.complex i c fits_c lower_c;
       };
       homes = record { len = joins.fine.homes.len; home = λ n h. home-old n _ h (joins.fine.homes.home n h) };
     }
 
-    aloneC : (a b : ℕ) → held (cx withComplexOrder a).quantity ≡ true → held (cx withComplexOrder b).quantity ≡ true →
-        (cx withComplexOrder a).id ≡ (cx withComplexOrder b).id → a ≡ b
-    unfolding withComplex with_last
-    aloneC = put_alone noComplex id-ofC quantity-ofC v.complex i c fitsC lowerC (good-xx joins.fine.good)
+    alone_c : (a b : ℕ) → held (cx with_complex_order a).quantity ≡ true → held (cx with_complex_order b).quantity ≡ true →
+        (cx with_complex_order a).id ≡ (cx with_complex_order b).id → a ≡ b
+    unfolding with_complex with_last
+    alone_c = put_alone no_complex id-of_c quantity-of_c v.complex i c fits_c lower_c (good-xx joins.fine.good)
 
-    complex-cx : ComplexId c withComplexOrder
-    unfolding withComplex with_last
+    complex-cx : ComplexId c with_complex_order
+    unfolding with_complex with_last
     complex-cx = record {
-      home = λ a h e. same-legs (put-new noComplex id-ofC quantity-ofC v.complex i c fitsC lowerC a h e);
-      alone = λ a b h k p q. aloneC a b h k (p ∙ sym q);
+      home = λ a h e. same-legs (put-new no_complex id-of_c quantity-of_c v.complex i c fits_c lower_c a h e);
+      alone = λ a b h k p q. alone_c a b h k (p ∙ sym q);
       none = λ a h e. let z = joins.fine.good.rlast a h in omega arith;
     }
 
-    oldC : (y a : ℕ) → y ≤ v.last → held (cx withComplexOrder a).quantity ≡ true → (cx withComplexOrder a).id ≡ y →
-        (held (cx v a).quantity ≡ true) × (cx withComplexOrder a ≡ cx v a)
-    unfolding withComplex with_last
-    oldC y a le h e = put-old noComplex id-ofC quantity-ofC v.complex i c fitsC lowerC y a (omega arith) h e
+    old_c : (y a : ℕ) → y ≤ v.last → held (cx with_complex_order a).quantity ≡ true → (cx with_complex_order a).id ≡ y →
+        (held (cx v a).quantity ≡ true) × (cx with_complex_order a ≡ cx v a)
+    unfolding with_complex with_last
+    old_c y a le h e = put-old no_complex id-of_c quantity-of_c v.complex i c fits_c lower_c y a (omega arith) h e
 
-    complex-keeps-cx : (m : Complex) → m.id ≤ v.last → ComplexId m v → ComplexId m withComplexOrder
-    unfolding withComplex with_last
+    complex-keeps-cx : (m : Complex) → m.id ≤ v.last → ComplexId m v → ComplexId m with_complex_order
+    unfolding with_complex with_last
     complex-keeps-cx m le r = record {
-      home = λ a h e. (let x = oldC m.id a le h e in subst (λ (z : Complex). SameLegs z m) (sym x.1) (r.home a x.0 (sym (ap id-ofC x.1) ∙ e)));
-      alone = λ a b h k p q. aloneC a b h k (p ∙ sym q);
+      home = λ a h e. (let x = old_c m.id a le h e in subst (λ (z : Complex). SameLegs z m) (sym x.1) (r.home a x.0 (sym (ap id-of_c x.1) ∙ e)));
+      alone = λ a b h k p q. alone_c a b h k (p ∙ sym q);
       none = r.none;
     }
 
-    complex-keeps-reg : (y s : ℕ) → y ≤ v.last → RegularId y s v → RegularId y s withComplexOrder
-    unfolding withComplex with_last
+    complex-keeps-reg : (y s : ℕ) → y ≤ v.last → RegularId y s v → RegularId y s with_complex_order
+    unfolding with_complex with_last
     complex-keeps-reg y s le r = record {
       home = r.home;
       alone = r.alone;
-      none = λ j h e. (let x = oldC y j le h e in r.none j x.0 (sym (ap id-ofC x.1) ∙ e));
+      none = λ j h e. (let x = old_c y j le h e in r.none j x.0 (sym (ap id-of_c x.1) ∙ e));
     }
 
-    complex-open : (y : ℕ) → openComplex y withComplexOrder.complex ≡ openComplex y v.complex + (if eqb c.id y then c.quantity else 0)
-    unfolding withComplex with_last
-    complex-open y = open-put noComplex id-ofC quantity-ofC y v.complex i c fitsC (free-none _ joins.free)
+    complex-open : (y : ℕ) → open_complex y with_complex_order.complex ≡ open_complex y v.complex + (if eqb c.id y then c.quantity else 0)
+    unfolding with_complex with_last
+    complex-open y = open-put no_complex id-of_c quantity-of_c y v.complex i c fits_c (free-none _ joins.free)
 
-    pub complex-admitted : Admitted v withComplexOrder
-    unfolding withComplex with_last
+    pub complex-admitted : Admitted v with_complex_order
+    unfolding with_complex with_last
     complex-admitted = record {
       fine = complex-fine;
       later = (let z = joins.new in omega arith);
       regs = complex-keeps-reg;
       cxs = complex-keeps-cx;
-      openR = λ y le. refl;
+      open_r = λ y le. refl;
       open_c = λ y le. (let z = complex-open y in omega (arith, rw (ne_eqb c.id y (λ e. (let u = joins.new in omega arith))) at z));
     }
 
-    none-yetC : openComplex c.id v.complex ≡ 0
-    none-yetC = open_none noComplex id-ofC quantity-ofC c.id v.complex (λ n h e. (let z = lowerC n h in omega arith))
+    none-yet_c : open_complex c.id v.complex ≡ 0
+    none-yet_c = open_none no_complex id-of_c quantity-of_c c.id v.complex (λ n h e. (let z = lower_c n h in omega arith))
 
-    pub complex-new : NewComplex v withComplexOrder c
-    unfolding withComplex with_last
+    pub complex-new : NewComplex v with_complex_order c
+    unfolding with_complex with_last
     complex-new = record {
       new = joins.new;
       known = omega arith;
       own = complex-cx;
-      whole = (let z = complex-open c.id in let y = none-yetC in omega (arith, rw (eq-eqb c.id c.id refl) at z));
+      whole = (let z = complex-open c.id in let y = none-yet_c in omega (arith, rw (eq-eqb c.id c.id refl) at z));
     }

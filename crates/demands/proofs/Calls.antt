@@ -8,15 +8,15 @@ use native.Mathlib.Omega.{arith}
 use lib.ListN.{length}
 use Rattle.rules.specs.declared.Complex.{Complex}
 use Rattle.rules.specs.declared.Venue.{Venue}
-use Rattle.rules.specs.Words.{freshVenue}
+use Rattle.rules.specs.Words.{fresh_venue}
 use Rattle.rules.specs.Records.{FourBytes}
 use Rattle.rules.specs.Step.{answered, step}
-use Rattle.rules.specs.Calls.{after, called, ends, one, oneFrom, run_from, runUpon, runUponFrom}
+use Rattle.rules.specs.Calls.{after, called, ends, one, one_from, run_from, run_upon, run_upon_from}
 use Rattle.demands.specs.Soundness.{AlwaysSound, DoneFits, FreshSound, StaysSound, NeverNine, SoundAt}
-use Rattle.demands.specs.Demand.{ComplexAdds, Demand3, Later, Opening, Seen, byList, byMessage, callUpon, calls, opening}
+use Rattle.demands.specs.Demand.{ComplexAdds, Demand3, Later, Opening, Seen, by_list, by_message, call_upon, calls, opening}
 use Rattle.demands.specs.ReadsBack.{ReadsBack, StepFits, WholeMemory}
 use Rattle.rules.proofs.Answering.{told}
-use Rattle.rules.proofs.CallsLaws.{one-memory, oneFrom-by, run-memory, runFrom-by, runUponFrom-by, upon-memory}
+use Rattle.rules.proofs.CallsLaws.{one-memory, one_from-by, run-memory, run_from-by, run_upon_from-by, upon-memory}
 use Rattle.rules.proofs.Dating.{some_number, step_follows}
 use Rattle.rules.proofs.Editions.{dated-steps}
 use Rattle.rules.proofs.Reading.{reads-back}
@@ -43,7 +43,7 @@ stays-sound v n few s bs =
     }
 
 pub fresh-sound : FreshSound
-fresh-sound = record { venue = sound-in freshVenue fresh-invariant; next = fresh-follows }
+fresh-sound = record { venue = sound-in fresh_venue fresh-invariant; next = fresh-follows }
 
 pub step_fits : StepFits
 step_fits v s n h bs = (told v (sound-out v s).ranged n bs).fits h
@@ -80,10 +80,10 @@ pub always-sound : AlwaysSound
 always-sound o cs = let a = all-account o cs in record { venue = sound-in _ a.invariant; next = a.dated }
 
 -- on a sound venue the number is 10, or the message's own
-not-nine : (v : Venue) (n : ℕ) → SoundAt (suc n) v → (room : ℕ) (bs : List ℕ) → (oneFrom v n room bs).number ≢ 9
+not-nine : (v : Venue) (n : ℕ) → SoundAt (suc n) v → (room : ℕ) (bs : List ℕ) → (one_from v n room bs).number ≢ 9
 unfolding ends after step answered
 not-nine v n h room bs =
-    oneFrom-by (λ r. r.number ≢ 9) v n room bs (λ u _. true≢false (sym (and_in _ _ h.venue.is h.next) ∙ u)) (λ _ _ e. omega arith)
+    one_from-by (λ r. r.number ≢ 9) v n room bs (λ u _. true≢false (sym (and_in _ _ h.venue.is h.next) ∙ u)) (λ _ _ e. omega arith)
     (λ _ _. refusal-own v bs 9 (omega arith) (omega arith))
 
 -- nor is a run's 9
@@ -91,16 +91,16 @@ run-not-nine : (fuel : ℕ) (v : Venue) (n room : ℕ) (bs : List ℕ) → (run_
 unfolding ends after
 run-not-nine zero v n room bs = unfold run_from in (λ e. omega arith)
 run-not-nine (suc fuel) v n room bs =
-    runFrom-by (λ r. r.number ≢ 9) v n room bs fuel (λ _ e. omega arith) (λ _ _ e. omega arith) (λ _ _ e. omega arith) (λ _ _. run-not-nine fuel _ (suc n) _ _)
+    run_from-by (λ r. r.number ≢ 9) v n room bs fuel (λ _ e. omega arith) (λ _ _ e. omega arith) (λ _ _ e. omega arith) (λ _ _. run-not-nine fuel _ (suc n) _ _)
 
-upon-not-nine : (v : Venue) (n : ℕ) → SoundAt (suc n) v → (room : ℕ) (bs : List ℕ) → (runUponFrom v n room bs).number ≢ 9
+upon-not-nine : (v : Venue) (n : ℕ) → SoundAt (suc n) v → (room : ℕ) (bs : List ℕ) → (run_upon_from v n room bs).number ≢ 9
 upon-not-nine v n h room bs =
-    runUponFrom-by (λ r. r.number ≢ 9) v n room bs (λ u _. true≢false (sym (and_in _ _ h.venue.is h.next) ∙ u)) (λ _. run-not-nine (length bs) v n room bs)
+    run_upon_from-by (λ r. r.number ≢ 9) v n room bs (λ u _. true≢false (sym (and_in _ _ h.venue.is h.next) ∙ u)) (λ _. run-not-nine (length bs) v n room bs)
 
-call-not-nine : (c : Later) (v : Venue) (n : ℕ) → SoundAt (suc n) v → (callUpon c v n).returned.number ≢ 9
-unfolding callUpon one runUpon called
-call-not-nine (byMessage g) v n h = not-nine v n h g.room g.bytes
-call-not-nine (byList g) v n h = upon-not-nine v n h g.room g.bytes
+call-not-nine : (c : Later) (v : Venue) (n : ℕ) → SoundAt (suc n) v → (call_upon c v n).returned.number ≢ 9
+unfolding call_upon one run_upon called
+call-not-nine (by_message g) v n h = not-nine v n h g.room g.bytes
+call-not-nine (by_list g) v n h = upon-not-nine v n h g.room g.bytes
 
 pub never-nine : NeverNine
 never-nine o cs c = let s = calls (opening o) cs in call-not-nine c s.venue s.done (always-sound o cs)
@@ -112,4 +112,4 @@ pub sheet-reads-back : ReadsBack
 sheet-reads-back = reads-back
 
 pub whole-memory : WholeMemory
-whole-memory = record { byRun = run-memory; byOne = one-memory; byRunUpon = upon-memory }
+whole-memory = record { by_run = run-memory; by_one = one-memory; by_run_upon = upon-memory }

@@ -12,11 +12,11 @@ use borrow.Author.Tests.{leb-true}
 use Rattle.rules.specs.Base.{held, if◌then◌else◌}
 use Rattle.rules.specs.Words.{within}
 use Rattle.rules.specs.Records.{ForAll, FourBytes, Report, answer, cancelled, crossed, generated, looked, pair, removed, trade}
-use Rattle.rules.specs.Generation.{generationsOf, oneMore, underCeiling}
+use Rattle.rules.specs.Generation.{generations_of, one_more, under_ceiling}
 use Rattle.rules.specs.Step.{step}
 use Rattle.rules.specs.Sound.{unfallen}
-use Rattle.rules.specs.Sums.{generatedOf, total}
-use Rattle.demands.specs.Ceiling.{Ceiling, generatedBy}
+use Rattle.rules.specs.Sums.{generated_of, total}
+use Rattle.demands.specs.Ceiling.{Ceiling, generated_by}
 use Rattle.demands.specs.Demand.{Seen, start}
 use Rattle.rules.proofs.Answering.{told}
 use Rattle.rules.proofs.Quiet.{NoAnswer}
@@ -30,28 +30,28 @@ use Rattle.demands.proofs.Truth.{Told, more-told, start-told}
 -- The last twenty -----------------------------------------------------------------------------
 
 -- how many numbers of a list pass a test
-unfoldable countIn : (ℕ → Bool) → List ℕ → ℕ
-countIn f [] = 0
-countIn f (n ∷ ns) = (if f n then 1 else 0) + countIn f ns
+unfoldable count_in : (ℕ → Bool) → List ℕ → ℕ
+count_in f [] = 0
+count_in f (n ∷ ns) = (if f n then 1 else 0) + count_in f ns
 
-count_most : (f : ℕ → Bool) (l : List ℕ) → countIn f l ≤ length l
-unfolding countIn
+count_most : (f : ℕ → Bool) (l : List ℕ) → count_in f l ≤ length l
+unfolding count_in
 count_most f [] = omega arith
 count_most f (n ∷ l) = go (f n) (count_most f l)
   where
-    go : (b : Bool) → countIn f l ≤ length l → (if b then 1 else 0) + countIn f l ≤ suc (length l)
+    go : (b : Bool) → count_in f l ≤ length l → (if b then 1 else 0) + count_in f l ≤ suc (length l)
     go true h = omega arith
     go false h = omega arith
 
-count-more : (f : ℕ → Bool) (l : List ℕ) (n : ℕ) → countIn f (l ++ (n ∷ [])) ≡ countIn f l + (if f n then 1 else 0)
-unfolding countIn
+count-more : (f : ℕ → Bool) (l : List ℕ) (n : ℕ) → count_in f (l ++ (n ∷ [])) ≡ count_in f l + (if f n then 1 else 0)
+unfolding count_in
 count-more f [] n = omega arith
 count-more f (x ∷ l) n = let z = count-more f l n in omega arith
 
 -- all that was generated so far, by what a test of its message's number counts; l is the last twenty
 record Under (C : (ℕ → Bool) → ℕ) (l : List ℕ) : Type 0 where
   -- after the oldest of them nothing is missing
-  late : (a : ℕ) → get_or l 0 0 < a → C (leb a) ≤ countIn (leb a) l
+  late : (a : ℕ) → get_or l 0 0 < a → C (leb a) ≤ count_in (leb a) l
   inside : (a : ℕ) → C (within (suc a) (a + 256)) ≤ C (leb (suc a))
   window : (a : ℕ) → C (within (suc a) (a + 256)) ≤ 20
 
@@ -63,8 +63,8 @@ under_same C D l e u = record {
 }
 
 -- the oldest is none, or so long ago
-old : (n x : ℕ) (l : List ℕ) → underCeiling n (x ∷ l) ≡ true → (a : ℕ) → n ≤ a + 256 → x < suc a
-unfolding underCeiling
+old : (n x : ℕ) (l : List ℕ) → under_ceiling n (x ∷ l) ≡ true → (a : ℕ) → n ≤ a + 256 → x < suc a
+unfolding under_ceiling
 old n x l h a le = go (held x) refl h
   where
     go : (b : Bool) → held x ≡ b → (not b || leb (x + 256) n) ≡ true → x < suc a
@@ -76,13 +76,13 @@ old n x l h a le = go (held x) refl h
         none (suc x) e = absurd (true≢false (sym (pos-held (suc x) (omega arith)) ∙ e))
 
 -- one more
-module _ (C : (ℕ → Bool) → ℕ) (n x y : ℕ) (l : List ℕ) (v : Level n (x ∷ y ∷ l)) (u : Under C (x ∷ y ∷ l)) (allowed : underCeiling n (x ∷ y ∷ l) ≡ true) where
+module _ (C : (ℕ → Bool) → ℕ) (n x y : ℕ) (l : List ℕ) (v : Level n (x ∷ y ∷ l)) (u : Under C (x ∷ y ∷ l)) (allowed : under_ceiling n (x ∷ y ∷ l) ≡ true) where
   abbrev more : (ℕ → Bool) → ℕ
   more f = C f + (if f n then 1 else 0)
 
   -- from above the oldest on, the others are all
-  others : (a : ℕ) → x < a → C (leb a) ≤ countIn (leb a) (y ∷ l)
-  unfolding countIn
+  others : (a : ℕ) → x < a → C (leb a) ≤ count_in (leb a) (y ∷ l)
+  unfolding count_in
   others a h = let z = u.late a h in let y = rw (gt-leb a x h) at z in omega arith
     where
       gt-leb : (a b : ℕ) → b < a → leb a b ≡ false
@@ -96,7 +96,7 @@ module _ (C : (ℕ → Bool) → ℕ) (n x y : ℕ) (l : List ℕ) (v : Level n 
   unfolding unfallen
   rising = let r = v.rises in leb-true x y (and_l (leb x y) _ (and_r (leb 0 x) _ r))
 
-  late-more : (a : ℕ) → y < a → more (leb a) ≤ countIn (leb a) (y ∷ (l ++ (n ∷ [])))
+  late-more : (a : ℕ) → y < a → more (leb a) ≤ count_in (leb a) (y ∷ (l ++ (n ∷ [])))
   late-more a h =
       let r = rising in
       let z = others a (omega arith) in
@@ -129,8 +129,8 @@ module _ (C : (ℕ → Bool) → ℕ) (n x y : ℕ) (l : List ℕ) (v : Level n 
   under_more : Under more (y ∷ (l ++ (n ∷ [])))
   under_more = record { late = late-more; inside = inside-more; window = window_more }
 
-under_one : (C : (ℕ → Bool) → ℕ) (n : ℕ) (l : List ℕ) → Level n l → Under C l → underCeiling n l ≡ true → Under (λ f. C f + (if f n then 1 else 0)) (oneMore n l)
-unfolding oneMore
+under_one : (C : (ℕ → Bool) → ℕ) (n : ℕ) (l : List ℕ) → Level n l → Under C l → under_ceiling n l ≡ true → Under (λ f. C f + (if f n then 1 else 0)) (one_more n l)
+unfolding one_more
 under_one C n [] v u h = let z = v.len in absurd (omega arith)
 under_one C n (x ∷ []) v u h = let z = v.len in absurd (omega arith)
 under_one C n (x ∷ y ∷ l) v u h = under_more C n x y l v u h
@@ -143,8 +143,8 @@ under-many C n zero l v u h = under_same C _ l (λ f. none (C f) (f n)) u
     none c true = omega arith
     none c false = omega arith
 under-many C n (suc k) l v u h =
-    under_same _ _ (pushed n k (oneMore n l)) (λ f. joined (C f) (f n))
-    (under-many (λ f. C f + (if f n then 1 else 0)) n k (oneMore n l) (one-level n l v) (under_one C n l v u h.0) h.1)
+    under_same _ _ (pushed n k (one_more n l)) (λ f. joined (C f) (f n))
+    (under-many (λ f. C f + (if f n then 1 else 0)) n k (one_more n l) (one-level n l v) (under_one C n l v u h.0) h.1)
   where
     joined : (c : ℕ) (b : Bool) → c + (if b then suc k else 0) ≡ c + (if b then 1 else 0) + (if b then k else 0)
     joined c true = omega arith
@@ -157,8 +157,8 @@ plain true k = omega arith
 plain false k = refl
 
 -- of one message
-by_one : (f : ℕ → Bool) (s now : ℕ) (rs : List Report) → ForAll NoAnswer rs → generatedBy f s now rs ≡ (if f now then total (generatedOf s) rs else 0)
-unfolding generatedBy total generatedOf
+by_one : (f : ℕ → Bool) (s now : ℕ) (rs : List Report) → ForAll NoAnswer rs → generated_by f s now rs ≡ (if f now then total (generated_of s) rs else 0)
+unfolding generated_by total generated_of
 by_one f s now [] h = nothing (f now)
   where
     nothing : (b : Bool) → ◌≡◌ {A = ℕ} 0 (if b then 0 else 0)
@@ -169,8 +169,8 @@ by_one f s now (trade _ _ _ _ _ _ ∷ rs) h = by_one f s now rs h.1 ∙ plain (f
 by_one f s now (pair _ _ _ ∷ rs) h = by_one f s now rs h.1 ∙ plain (f now) _
 by_one f s now (generated id t side price displayed quantity ∷ rs) h = one (f now) (eqb t s) (by_one f s now rs h.1)
   where
-    one : (b c : Bool) → generatedBy f s now rs ≡ (if b then total (generatedOf s) rs else 0) →
-        (if b && c then 1 else 0) + generatedBy f s now rs ≡ (if b then (if c then 1 else 0) + total (generatedOf s) rs else 0)
+    one : (b c : Bool) → generated_by f s now rs ≡ (if b then total (generated_of s) rs else 0) →
+        (if b && c then 1 else 0) + generated_by f s now rs ≡ (if b then (if c then 1 else 0) + total (generated_of s) rs else 0)
     one true c e = omega arith
     one false c e = omega arith
 by_one f s now (removed _ _ _ _ ∷ rs) h = by_one f s now rs h.1 ∙ plain (f now) _
@@ -180,8 +180,8 @@ by_one f s now (looked _ ∷ rs) h = by_one f s now rs h.1 ∙ plain (f now) _
 
 -- and then a message's records, its 64 first
 by-more : (f : ℕ → Bool) (s now : ℕ) (rs : List Report) (n x m c : ℕ) (es : List Report) → ForAll NoAnswer es →
-    generatedBy f s now (rs ++ (answer n x m c ∷ es)) ≡ generatedBy f s now rs + (if f n then total (generatedOf s) es else 0)
-unfolding generatedBy
+    generated_by f s now (rs ++ (answer n x m c ∷ es)) ≡ generated_by f s now rs + (if f n then total (generated_of s) es else 0)
+unfolding generated_by
 by-more f s now [] n x m c es h = let z = by_one f s n es h in omega arith
 by-more f s now (answer k _ _ _ ∷ rs) n x m c es h = by-more f s k rs n x m c es h
 by-more f s now (trade _ _ _ _ _ _ ∷ rs) n x m c es h = by-more f s now rs n x m c es h
@@ -196,16 +196,16 @@ by-more f s now (looked _ ∷ rs) n x m c es h = by-more f s now rs n x m c es h
 
 record UnderCeiling (s : Seen) : Type 0 where
   told : Told s
-  under : (t : ℕ) → t < 8 → Under (λ f. generatedBy f t 0 s.reports) (generationsOf s.venue t)
+  under : (t : ℕ) → t < 8 → Under (λ f. generated_by f t 0 s.reports) (generations_of s.venue t)
 
 start-kept : UnderCeiling start
 start-kept = record { told = start-told; under = λ t _. start_under t }
   where
-    start_under : (t : ℕ) → Under (λ f. generatedBy f t 0 start.reports) (generationsOf start.venue t)
-    start_under t = unfold start generatedBy in (record { late = λ a h. omega arith; inside = λ a. omega arith; window = λ a. omega arith })
+    start_under : (t : ℕ) → Under (λ f. generated_by f t 0 start.reports) (generations_of start.venue t)
+    start_under t = unfold start generated_by in (record { late = λ a h. omega arith; inside = λ a. omega arith; window = λ a. omega arith })
 
 under-step : (s : Seen) (bs : List ℕ) → UnderCeiling s → (t : ℕ) → t < 8 →
-    Under (λ f. generatedBy f t 0 (s.reports ++ (step s.venue (suc s.done) bs).effect.reports)) (generationsOf (step s.venue (suc s.done) bs).effect.venue t)
+    Under (λ f. generated_by f t 0 (s.reports ++ (step s.venue (suc s.done) bs).effect.reports)) (generations_of (step s.venue (suc s.done) bs).effect.venue t)
 under-step s bs k t t8 =
     let v = s.venue in
     let n = suc s.done in
@@ -213,17 +213,17 @@ under-step s bs k t t8 =
     let w = told v i.ranged n bs in
     let r = tracks-step v n bs in
     let in8 : t < length v.generations = (let e = i.busy.eight in omega arith) in
-    let c : total (generatedOf t) (step v n bs).effect.reports ≡ total (generatedOf t) w.effects = ap (total (generatedOf t)) w.is ∙ (unfold total generatedOf in (zero-add _)) in
+    let c : total (generated_of t) (step v n bs).effect.reports ≡ total (generated_of t) w.effects = ap (total (generated_of t)) w.is ∙ (unfold total generated_of in (zero-add _)) in
     subst (Under _) (sym (r.pushes t in8))
-    (under_same _ _ _ (λ f. ap (λ (q : List Report). generatedBy f t 0 (s.reports ++ q)) w.is ∙ by-more f t 0 s.reports n _ _ _ w.effects
-    w.quiet ∙ ap (λ (q : ℕ). generatedBy f t 0 s.reports + (if f n then q else 0)) (sym c))
+    (under_same _ _ _ (λ f. ap (λ (q : List Report). generated_by f t 0 (s.reports ++ q)) w.is ∙ by-more f t 0 s.reports n _ _ _ w.effects
+    w.quiet ∙ ap (λ (q : ℕ). generated_by f t 0 s.reports + (if f n then q else 0)) (sym c))
     (under-many _ n _ _ (busy-levels v n (omega arith) i.busy k.told.sound.next t) (k.under t t8) (r.allowed t in8)))
 
 more-kept : (s : Seen) (bs : List ℕ) → UnderCeiling s → FourBytes (suc s.done) → UnderCeiling (onto s bs (step s.venue (suc s.done) bs).effect)
 more-kept s bs k few = record { told = more-told s bs k.told few; under = under s bs k }
   where
     under : (s : Seen) (bs : List ℕ) → UnderCeiling s → (t : ℕ) → t < 8 →
-        Under (λ f. generatedBy f t 0 (onto s bs (step s.venue (suc s.done) bs).effect).reports) (generationsOf (onto s bs (step s.venue (suc s.done) bs).effect).venue t)
+        Under (λ f. generated_by f t 0 (onto s bs (step s.venue (suc s.done) bs).effect).reports) (generations_of (onto s bs (step s.venue (suc s.done) bs).effect).venue t)
     under s bs k t t8 = unfold onto in (under-step s bs k t t8)
 
 pub ceiling : Ceiling

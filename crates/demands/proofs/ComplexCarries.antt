@@ -14,24 +14,24 @@ use Rattle.rules.specs.declared.Legging.{Legging}
 use Rattle.rules.specs.declared.Venue.{Venue}
 use Rattle.rules.specs.declared.Verdict.{Verdict}
 use Rattle.rules.specs.Base.{held}
-use Rattle.rules.specs.Words.{complexAt, noComplex, opposite, withComplex, withLegging, withRegular}
+use Rattle.rules.specs.Words.{complex_at, no_complex, opposite, with_complex, with_legging, with_regular}
 use Rattle.rules.specs.Bytes.{i32}
 use Rattle.rules.specs.Effects.{Effect, Turn, ◌⟫◌, ended, nothing, repeat, report, turned}
-use Rattle.rules.specs.Prices.{bestRegular, bestSize}
-use Rattle.rules.specs.Removal.{remove, removeOf}
-use Rattle.rules.specs.Standing.{settle, showAgain, verdict}
-use Rattle.rules.specs.Trading.{fillComplex}
-use Rattle.rules.specs.Complex.{anyClosed, cross, crossTurn, crosses, legIn, legInTurn, legsIn, reversed, touch, touches, unitsIn, work}
-use Rattle.rules.proofs.Cases.{crossTurn-by, if-by, repeat-by}
+use Rattle.rules.specs.Prices.{best_regular, best_size}
+use Rattle.rules.specs.Removal.{remove, remove_of}
+use Rattle.rules.specs.Standing.{settle, show_again, verdict}
+use Rattle.rules.specs.Trading.{fill_complex}
+use Rattle.rules.specs.Complex.{any_closed, cross, cross_turn, crosses, leg_in, leg_in_turn, legs_in, reversed, touch, touches, units_in, work}
+use Rattle.rules.proofs.Cases.{cross_turn-by, if-by, repeat-by}
 use Rattle.rules.proofs.Ending.{legs-facts}
 use Rattle.rules.proofs.Filling.{cx}
 use Rattle.rules.proofs.Ledger.{Moves, moves-nothing, moves-remove, moves-settle, moves-then}
-use Rattle.rules.proofs.Moving.{Crosses, moves-cross, other-sameC}
-use Rattle.rules.proofs.Pairing.{LegsIn, legIn-venue, legged, legged-complex, legged-legging, moves-legIn}
+use Rattle.rules.proofs.Moving.{Crosses, moves-cross, other-same_c}
+use Rattle.rules.proofs.Pairing.{LegsIn, leg_in-venue, legged, legged-complex, legged-legging, moves-leg_in}
 use Rattle.rules.proofs.Picking.{At}
 use Rattle.rules.proofs.Tests.{and_l, and_r}
 use Rattle.rules.proofs.Units.{units-open, units-size1, units-size2}
-use Rattle.demands.proofs.Homes.{Fine, Homes, good-kept, homes-fill, homes-pairOff, homes-remove, homes_same}
+use Rattle.demands.proofs.Homes.{Fine, Homes, good-kept, homes-fill, homes-pair_off, homes-remove, homes_same}
 
 pub record Carries (v : Venue) (e : Effect) : Type 0 where
   pub moves : Moves v e
@@ -54,8 +54,8 @@ carries-remove g v f = record { moves = moves-remove g v; homes = homes-remove g
 pub settle-carries : (v : Venue) → Fine v → Carries v (settle v)
 unfolding settle
 settle-carries v f =
-    let w = showAgain v in
-    record { moves = moves-settle v; homes = homes-remove (verdict w) w (unfold showAgain withRegular in (homes_same refl refl f.homes)) }
+    let w = show_again v in
+    record { moves = moves-settle v; homes = homes-remove (verdict w) w (unfold show_again with_regular in (homes_same refl refl f.homes)) }
 
 -- Turns ---------------------------------------------------------------------------------------
 
@@ -89,18 +89,18 @@ reversed-not c ne h =
 
 module _ (i j k : ℕ) (v : Venue) (f : Fine v) (m : Crosses v i j k) where
   cross-homes : Homes (cross i j k v).venue
-  unfolding cross report ◌⟫◌ removeOf remove withLegging fillComplex withComplex complexAt
+  unfolding cross report ◌⟫◌ remove_of remove with_legging fill_complex with_complex complex_at
   cross-homes =
-      subst (λ (id : ℕ). Homes (removeOf id Executed (fillComplex j k (removeOf (cx v i).id Executed (fillComplex i k v)).venue)).venue)
-      (ap (λ (c : Complex). c.id) (other-sameC i j k v m))
-      (homes-fill j k Executed (removeOf (cx v i).id Executed (fillComplex i k v)).venue (homes-fill i k Executed v f.homes))
+      subst (λ (id : ℕ). Homes (remove_of id Executed (fill_complex j k (remove_of (cx v i).id Executed (fill_complex i k v)).venue)).venue)
+      (ap (λ (c : Complex). c.id) (other-same_c i j k v m))
+      (homes-fill j k Executed (remove_of (cx v i).id Executed (fill_complex i k v)).venue (homes-fill i k Executed v f.homes))
 
   pub carries-cross : Carries v (cross i j k v)
   carries-cross = record { moves = moves-cross i j k v m; homes = cross-homes }
 
 module _ (i : ℕ) (i32 : i < 32) where
   -- the order that is picked crosses
-  picked-crosses : (v : Venue) (j : ℕ) (m : Complex) → Fine v → held (cx v i).quantity ≡ true → At noComplex (crosses v (cx v i)) v.complex j m →
+  picked-crosses : (v : Venue) (j : ℕ) (m : Complex) → Fine v → held (cx v i).quantity ≡ true → At no_complex (crosses v (cx v i)) v.complex j m →
       Crosses v i j (min (cx v i).quantity m.quantity)
   unfolding crosses
   picked-crosses v j m f h a =
@@ -117,38 +117,38 @@ module _ (i : ℕ) (i32 : i < 32) where
         enough2 = rw a.at (omega arith);
       }
 
-  pub crossTurn-ok : (v : Venue) → Fine v → Unit {0} → TurnOk (λ _. Unit {0}) v (crossTurn i v)
-  unfolding complexAt
-  crossTurn-ok v f _ =
-      crossTurn-by (TurnOk (λ _. Unit {0}) v) i v (λ _. tt) (λ _ _. tt) (λ e j m a. (carries-cross i j _ v f (picked-crosses v j m f e a), tt))
+  pub cross_turn-ok : (v : Venue) → Fine v → Unit {0} → TurnOk (λ _. Unit {0}) v (cross_turn i v)
+  unfolding complex_at
+  cross_turn-ok v f _ =
+      cross_turn-by (TurnOk (λ _. Unit {0}) v) i v (λ _. tt) (λ _ _. tt) (λ e j m a. (carries-cross i j _ v f (picked-crosses v j m f e a), tt))
 
   -- Touch
   pub touch-carries : (v : Venue) → Fine v → Carries v (touch i v)
   unfolding touch
-  touch-carries v f = if-by (Carries v) (touches v (complexAt v i)) (λ _. carries-remove _ v f) (λ _. carries-nothing v f)
+  touch-carries v f = if-by (Carries v) (touches v (complex_at v i)) (λ _. carries-remove _ v f) (λ _. carries-nothing v f)
 
   -- Leg in
   module _ (a b k : ℕ) (v : Venue) (f : Fine v) (m : LegsIn v i a b k) where
-    pub carries-legIn : Carries v (legIn i a b k v)
-    carries-legIn = record {
-      moves = moves-legIn v i a b k m;
-      homes = rw (legIn-venue v i a b k) (homes-pairOff i _ _ k (legged v i a b k)
-          (ap (λ (l : List Complex). (get_or l i noComplex).id) (sym (legged-complex v i a b k)))
+    pub carries-leg_in : Carries v (leg_in i a b k v)
+    carries-leg_in = record {
+      moves = moves-leg_in v i a b k m;
+      homes = rw (leg_in-venue v i a b k) (homes-pair_off i _ _ k (legged v i a b k)
+          (ap (λ (l : List Complex). (get_or l i no_complex).id) (sym (legged-complex v i a b k)))
           (homes_same (legged-complex v i a b k) (legged-legging v i a b k) f.homes));
     }
 
-  pub legInTurn-ok : (v : Venue) → Fine v → Unit {0} → TurnOk (λ _. Unit {0}) v (legInTurn i v)
-  unfolding legInTurn complexAt bestSize
-  legInTurn-ok v f _ =
+  pub leg_in_turn-ok : (v : Venue) → Fine v → Unit {0} → TurnOk (λ _. Unit {0}) v (leg_in_turn i v)
+  unfolding leg_in_turn complex_at best_size
+  leg_in_turn-ok v f _ =
       let c = cx v i in
-      let a = bestRegular v c.series1 (opposite c.side1) in
-      let b = bestRegular v c.series2 (opposite c.side2) in
-      if-by (TurnOk (λ _. Unit {0}) v) (legsIn v c a b && held (unitsIn v c))
+      let a = best_regular v c.series1 (opposite c.side1) in
+      let b = best_regular v c.series2 (opposite c.side2) in
+      if-by (TurnOk (λ _. Unit {0}) v) (legs_in v c a b && held (units_in v c))
       (λ e. (
-        carries-legIn a b _ v f (record {
+        carries-leg_in a b _ v f (record {
           fits = rw f.good.len2 i32;
-          holds = (legs-facts v c a b (and_l _ (held (unitsIn v c)) e)).0;
-          apart = (f.good.ranges i (legs-facts v c a b (and_l _ (held (unitsIn v c)) e)).0).apart;
+          holds = (legs-facts v c a b (and_l _ (held (units_in v c)) e)).0;
+          apart = (f.good.ranges i (legs-facts v c a b (and_l _ (held (units_in v c)) e)).0).apart;
           enough = units-open v c;
           size1 = units-size1 v c;
           size2 = units-size2 v c;
@@ -160,9 +160,9 @@ module _ (i : ℕ) (i32 : i < 32) where
   pub work-carries : (v : Venue) → Fine v → Carries v (work i v)
   unfolding work
   work-carries v f =
-      let n = (complexAt v i).quantity in
-      if-by (Carries v) (anyClosed v (complexAt v i)) (λ _. carries-nothing v f)
+      let n = (complex_at v i).quantity in
+      if-by (Carries v) (any_closed v (complex_at v i)) (λ _. carries-nothing v f)
       (λ _.
-      let p = repeat-carries (λ _. Unit {0}) (crossTurn i) crossTurn-ok n v f tt in
+      let p = repeat-carries (λ _. Unit {0}) (cross_turn i) cross_turn-ok n v f tt in
       let q = carries-then _ (touch i) p (touch-carries _ (fine-after f p)) in
-      carries-then _ (repeat n (legInTurn i)) q (repeat-carries (λ _. Unit {0}) (legInTurn i) legInTurn-ok n _ (fine-after f q) tt))
+      carries-then _ (repeat n (leg_in_turn i)) q (repeat-carries (λ _. Unit {0}) (leg_in_turn i) leg_in_turn-ok n _ (fine-after f q) tt))

@@ -9,21 +9,21 @@ use Rattle.rules.specs.declared.Message.{Message}
 use Rattle.rules.specs.declared.Message.TheVariants.{Order, TwoLeg, Cancel, Away, Status, Sweep, Increment, Percent, LimitedSweep}
 use Rattle.rules.specs.declared.Venue.{Venue}
 use Rattle.rules.specs.Base.{if◌then◌else◌}
-use Rattle.rules.specs.Words.{complexAt, freshVenue}
-use Rattle.rules.specs.Messages.{messageOf}
+use Rattle.rules.specs.Words.{complex_at, fresh_venue}
+use Rattle.rules.specs.Messages.{message_of}
 use Rattle.rules.specs.Records.{ForAll, Report, FourBytes}
 use Rattle.rules.specs.Effects.{Effect, Turn, ended, turned, nothing, report, ◌⟫◌, repeat}
-use Rattle.rules.specs.Complex.{anyClosed, cross, crossTurn, eachOf, work, complex, limitedSweep, sweep}
+use Rattle.rules.specs.Complex.{any_closed, cross, cross_turn, each_of, work, complex, limited_sweep, sweep}
 use Rattle.rules.specs.Generation.{generate}
-use Rattle.rules.specs.Places.{closeGaps}
+use Rattle.rules.specs.Places.{close_gaps}
 use Rattle.rules.specs.Refusals.{refusal}
 use Rattle.rules.specs.Step.{accept, answered, perform, step}
 use Rattle.demands.specs.Demand.{Seen, start}
-use Rattle.demands.specs.Truth.{leaves, venueAfter}
-use Rattle.demands.specs.Crosses.{CrossesRespect, Deal, Dealt, Moment, NoCross, Respects, crossings, deal, inAll, inEachOf, inMessage, inStep, inWork, none, other}
+use Rattle.demands.specs.Truth.{leaves, venue_after}
+use Rattle.demands.specs.Crosses.{CrossesRespect, Deal, Dealt, Moment, NoCross, Respects, crossings, deal, in_all, in_each_of, in_message, in_step, in_work, none, other}
 use Rattle.rules.proofs.Crossing as law
 use Rattle.rules.proofs.Crossing.{cross-respects, respects}
-use Rattle.rules.proofs.Quiet.{All, Others, all-cancel, all-eachOf, all-generate, all-legging, all_nothing, all-order, all-removeOf, all-settle, all-touch}
+use Rattle.rules.proofs.Quiet.{All, Others, all-cancel, all-each_of, all-generate, all-legging, all_nothing, all-order, all-remove_of, all-settle, all-touch}
 use Rattle.demands.proofs.Account.{onto}
 use Rattle.demands.proofs.Induction.{all_keep}
 use Rattle.demands.proofs.SoundnessLaws.{sound-out}
@@ -69,24 +69,24 @@ unfolding report
 does-report x r w d = deal d none
 
 -- the 70, and then removals
-does-cross : (i j k : ℕ) (v : Venue) → crossTurn i v ≡ turned (cross i j k v) →
-    Respects v (complexAt v i) (neg_ℤ (complexAt v j).limit) → Respects v (complexAt v j) (complexAt v j).limit → Does (now i v ∷ []) (cross i j k v)
+does-cross : (i j k : ℕ) (v : Venue) → cross_turn i v ≡ turned (cross i j k v) →
+    Respects v (complex_at v i) (neg_ℤ (complex_at v j).limit) → Respects v (complex_at v j) (complex_at v j).limit → Does (now i v ∷ []) (cross i j k v)
 unfolding cross
 does-cross i j k v is a b =
     does-plain _ _ _ (does-plain _ _ _ (does-report (now i v) _ _ (record { maker = j; quantity = k; is = is; told = refl; taker = a; resting = b }))
-    (all-removeOf NoCross no-cross _ _ _)) (all-removeOf NoCross no-cross _ _ _)
+    (all-remove_of NoCross no-cross _ _ _)) (all-remove_of NoCross no-cross _ _ _)
 
-does-crossing : (i fuel : ℕ) (v : Venue) → Does (crossings fuel i v) (repeat fuel (crossTurn i) v)
+does-crossing : (i fuel : ℕ) (v : Venue) → Does (crossings fuel i v) (repeat fuel (cross_turn i) v)
 unfolding crossings repeat
 does-crossing i zero v = idle v
-does-crossing i (suc fuel) v = go (crossTurn i v) refl (cross-respects i v) (λ w. does-crossing i fuel w)
+does-crossing i (suc fuel) v = go (cross_turn i v) refl (cross-respects i v) (λ w. does-crossing i fuel w)
   where
-    go : (t : Turn) → crossTurn i v ≡ t → law.Dealt i v t → ((w : Venue) → Does (crossings fuel i w) (repeat fuel (crossTurn i) w)) →
+    go : (t : Turn) → cross_turn i v ≡ t → law.Dealt i v t → ((w : Venue) → Does (crossings fuel i w) (repeat fuel (cross_turn i) w)) →
         Does (elim t as (λ _. List Moment) [ ended ↦ [] | turned e ↦ now i v ∷ crossings fuel i e.venue ])
-        (elim t as (λ _. Effect) [ ended ↦ nothing v | turned e ↦ e ⟫ repeat fuel (crossTurn i) ])
+        (elim t as (λ _. Effect) [ ended ↦ nothing v | turned e ↦ e ⟫ repeat fuel (cross_turn i) ])
     go _ is law.none on = idle v
     go _ is (law.dealt j k a b) on =
-        does-then (now i v ∷ []) _ (cross i j k v) (repeat fuel (crossTurn i)) (does-cross i j k v is (respects _ _ _ a) (respects _ _ _ b)) (on _)
+        does-then (now i v ∷ []) _ (cross i j k v) (repeat fuel (cross_turn i)) (does-cross i j k v is (respects _ _ _ a) (respects _ _ _ b)) (on _)
 
 -- Messages ------------------------------------------------------------------------------------
 
@@ -94,69 +94,69 @@ does-if : (b : Bool) (xs ys : List Moment) (e f : Effect) → Does xs e → Does
 does-if true xs ys e f h k = h
 does-if false xs ys e f h k = k
 
-does-work : (i : ℕ) (v : Venue) → Does (inWork i v) (work i v)
-unfolding work inWork
+does-work : (i : ℕ) (v : Venue) → Does (in_work i v) (work i v)
+unfolding work in_work
 does-work i v =
-    let n = (complexAt v i).quantity in
-    does-if (anyClosed v (complexAt v i)) _ _ _ _ (idle v)
+    let n = (complex_at v i).quantity in
+    does-if (any_closed v (complex_at v i)) _ _ _ _ (idle v)
     (does-plain _ _ _ (does-plain _ _ _ (does-crossing i n v) (all-touch NoCross no-cross i _)) (all-legging NoCross no-cross i n _))
 
-does-eachOf : (places : List ℕ) (v : Venue) → Does (inEachOf places v) (eachOf work places v)
-unfolding inEachOf eachOf
-does-eachOf [] v = idle v
-does-eachOf (i ∷ places) v = does-then _ _ (work i v) (eachOf work places) (does-work i v) (does-eachOf places _)
+does-each_of : (places : List ℕ) (v : Venue) → Does (in_each_of places v) (each_of work places v)
+unfolding in_each_of each_of
+does-each_of [] v = idle v
+does-each_of (i ∷ places) v = does-then _ _ (work i v) (each_of work places) (does-work i v) (does-each_of places _)
 
 plain-generate : (number i : ℕ) (v : Venue) → All NoCross (generate number i v)
 plain-generate number i v = all-generate NoCross no-cross (λ _ _ _ _ _ _. tt) number i v
 
-does-perform : (number : ℕ) (m : Message) (v : Venue) → Does (inMessage m v) (perform number m v)
-unfolding inMessage perform complex sweep limitedSweep report
+does-perform : (number : ℕ) (m : Message) (v : Venue) → Does (in_message m v) (perform number m v)
+unfolding in_message perform complex sweep limited_sweep report
 does-perform number (Order o) v = no-deals _ (all-order NoCross no-cross o _)
 does-perform number (TwoLeg c) v = does-plain _ _ _ (does-plain _ _ _ (does-work _ _) (all-settle NoCross no-cross _)) (plain-generate number _ _)
 does-perform number (Cancel id) v = no-deals _ (all-cancel NoCross no-cross id v)
 does-perform number (Away s bid offer) v = no-deals _ (all-settle NoCross no-cross _)
 does-perform number (Status s x) v = no-deals _ (all-settle NoCross no-cross _)
 does-perform number Sweep v =
-    does-plain _ _ _ (does-plain _ _ _ (does-eachOf _ v) (all-settle NoCross no-cross _)) (all-eachOf NoCross no-cross (generate number) (plain-generate number) _ _)
+    does-plain _ _ _ (does-plain _ _ _ (does-each_of _ v) (all-settle NoCross no-cross _)) (all-each_of NoCross no-cross (generate number) (plain-generate number) _ _)
 does-perform number (Increment s i e) v = no-deals _ (all-settle NoCross no-cross _)
 does-perform number (Percent x e) v = no-deals _ (all-settle NoCross no-cross _)
 does-perform number (LimitedSweep n) v =
-    does-plain _ _ _ (does-plain _ _ _ (does-then [] _ _ _ (other tt none) (does-eachOf _ _)) (all-settle NoCross no-cross _))
-    (all-eachOf NoCross no-cross (generate number) (plain-generate number) _ _)
+    does-plain _ _ _ (does-plain _ _ _ (does-then [] _ _ _ (other tt none) (does-each_of _ _)) (all-settle NoCross no-cross _))
+    (all-each_of NoCross no-cross (generate number) (plain-generate number) _ _)
 
-does-accept : (number : ℕ) (m : Message) (v : Venue) → Does (inMessage m v) (accept number m v)
+does-accept : (number : ℕ) (m : Message) (v : Venue) → Does (in_message m v) (accept number m v)
 unfolding accept
-does-accept number m v = does-plain _ (perform number m v) (λ w. nothing (closeGaps w)) (does-perform number m v) (all_nothing NoCross no-cross _)
+does-accept number m v = does-plain _ (perform number m v) (λ w. nothing (close_gaps w)) (does-perform number m v) (all_nothing NoCross no-cross _)
 
-does-step : (v : Venue) (n : ℕ) (bs : List ℕ) → Does (inStep v bs) (step v n bs).effect
-unfolding step answered inStep
-does-step v n bs = other tt (does-if (eqb (refusal v bs) 0) _ _ _ _ (does-accept n (messageOf bs) v) (idle v))
+does-step : (v : Venue) (n : ℕ) (bs : List ℕ) → Does (in_step v bs) (step v n bs).effect
+unfolding step answered in_step
+does-step v n bs = other tt (does-if (eqb (refusal v bs) 0) _ _ _ _ (does-accept n (message_of bs) v) (idle v))
 
 -- Calls ---------------------------------------------------------------------------------------
 
 -- one message more
-inAll-more : (v : Venue) (n : ℕ) (ms : List (List ℕ)) (m : List ℕ) → inAll v n (ms ++ (m ∷ [])) ≡ inAll v n ms ++ inStep (leaves v n ms) m
-unfolding inAll leaves
-inAll-more v n [] m = append-nil (inStep v m)
-inAll-more v n (x ∷ ms) m =
-    let w = venueAfter v (suc n) x in
-    ap (λ (l : List Moment). inStep v x ++ l) (inAll-more w (suc n) ms m)
-    ∙ sym (append_assoc (inStep v x) (inAll w (suc n) ms) (inStep (leaves w (suc n) ms) m))
+in_all-more : (v : Venue) (n : ℕ) (ms : List (List ℕ)) (m : List ℕ) → in_all v n (ms ++ (m ∷ [])) ≡ in_all v n ms ++ in_step (leaves v n ms) m
+unfolding in_all leaves
+in_all-more v n [] m = append-nil (in_step v m)
+in_all-more v n (x ∷ ms) m =
+    let w = venue_after v (suc n) x in
+    ap (λ (l : List Moment). in_step v x ++ l) (in_all-more w (suc n) ms m)
+    ∙ sym (append_assoc (in_step v x) (in_all w (suc n) ms) (in_step (leaves w (suc n) ms) m))
 
 -- so far, on the venue that the messages leave
 record Respected (s : Seen) : Type 0 where
   so : Told s
-  dealt : Dealt (inAll freshVenue 0 s.messages) s.reports
+  dealt : Dealt (in_all fresh_venue 0 s.messages) s.reports
 
 start-respected : Respected start
-unfolding start inAll
+unfolding start in_all
 start-respected = record { so = start-told; dealt = none }
 
 more-respected : (s : Seen) (bs : List ℕ) → Respected s → FourBytes (suc s.done) → Respected (onto s bs (step s.venue (suc s.done) bs).effect)
 unfolding onto
 more-respected s bs h few = record {
   so = more-told s bs h.so few;
-  dealt = rw (inAll-more freshVenue 0 s.messages bs, ← h.so.venue) (dealt-append h.dealt (does-step s.venue (suc s.done) bs));
+  dealt = rw (in_all-more fresh_venue 0 s.messages bs, ← h.so.venue) (dealt-append h.dealt (does-step s.venue (suc s.done) bs));
 }
 
 pub crosses-respect : CrossesRespect

@@ -21,17 +21,17 @@ use Rattle.rules.specs.declared.Complex.{Complex}
 use Rattle.rules.specs.declared.Legging.{Legging}
 use Rattle.rules.specs.declared.Venue.{Venue}
 use Rattle.rules.specs.declared.Verdict.{Verdict}
-use Rattle.rules.specs.Base.{held, placeWhere}
-use Rattle.rules.specs.Words.{buy, complexAt, isComplexOf, noComplex, noLegging, oneToOne, sell, withComplex, withLegging}
+use Rattle.rules.specs.Base.{held, place_where}
+use Rattle.rules.specs.Words.{buy, complex_at, is_complex_of, no_complex, no_legging, one_to_one, sell, with_complex, with_legging}
 use Rattle.rules.specs.Records.{Report}
 use Rattle.rules.specs.Effects.{◌⟫◌, report}
-use Rattle.rules.specs.Removal.{remove, removeOf}
-use Rattle.rules.specs.Standing.{findComplex, otherLeg, parentOf}
-use Rattle.rules.specs.Trading.{fillComplex, lessComplex, pairOff}
-use Rattle.rules.specs.Places.{blankComplex, blankRegular}
-use Rattle.rules.specs.Sound.{editionsSound}
+use Rattle.rules.specs.Removal.{remove, remove_of}
+use Rattle.rules.specs.Standing.{find_complex, other_leg, parent_of}
+use Rattle.rules.specs.Trading.{fill_complex, less_complex, pair_off}
+use Rattle.rules.specs.Places.{blank_complex, blank_regular}
+use Rattle.rules.specs.Sound.{editions_sound}
 use Rattle.rules.proofs.Dating.{Priced}
-use Rattle.rules.proofs.Filling.{LesserC, cx, lg, reg, still-held, still-heldC}
+use Rattle.rules.proofs.Filling.{LesserC, cx, lg, reg, still-held, still-held_c}
 use Rattle.rules.proofs.Finding.{LegOf, leg-series, place_is}
 use Rattle.rules.proofs.Generating.{AllStand}
 use Rattle.rules.proofs.Hitting.{other-is₁, other-is₂}
@@ -100,12 +100,12 @@ good-kept {v} {w} m g =
     record {
       len1 = f.same ∙ g.len1;
       len2 = c.same ∙ g.len2;
-      ranges = λ j h. range-kept (c.lesser j) (g.ranges j (still-heldC (c.lesser j) h));
+      ranges = λ j h. range-kept (c.lesser j) (g.ranges j (still-held_c (c.lesser j) h));
       rise1 = λ i j q h k. rw ((f.lesser i).id, (f.lesser j).id) (g.rise1 i j q (still-held (f.lesser i) h) (still-held (f.lesser j) k));
-      rise2 = λ i j q h k. rw ((c.lesser i).id, (c.lesser j).id) (g.rise2 i j q (still-heldC (c.lesser i) h) (still-heldC (c.lesser j) k));
-      rx = λ i j h k e. g.rx i j (still-held (f.lesser i) h) (still-heldC (c.lesser j) k) (sym (f.lesser i).id ∙ e ∙ (c.lesser j).id);
+      rise2 = λ i j q h k. rw ((c.lesser i).id, (c.lesser j).id) (g.rise2 i j q (still-held_c (c.lesser i) h) (still-held_c (c.lesser j) k));
+      rx = λ i j h k e. g.rx i j (still-held (f.lesser i) h) (still-held_c (c.lesser j) k) (sym (f.lesser i).id ∙ e ∙ (c.lesser j).id);
       rlast = λ i h. rw ((f.lesser i).id, m.last) (g.rlast i (still-held (f.lesser i) h));
-      xlast = λ j h. rw ((c.lesser j).id, m.last) (g.xlast j (still-heldC (c.lesser j) h));
+      xlast = λ j h. rw ((c.lesser j).id, m.last) (g.xlast j (still-held_c (c.lesser j) h));
     }
 
 -- Homes ---------------------------------------------------------------------------------------
@@ -116,7 +116,7 @@ pub record Home (v : Venue) (n : ℕ) (l : Legging) : Type 0 where
   pub fits : at < length v.complex
   pub id : (cx v at).id ≡ l.parent
   pub leg : LegOf (cx v at) (n / 2) (n % 2)
-  pub even : oneToOne (cx v at) ≡ true
+  pub even : one_to_one (cx v at) ≡ true
   pub enough : l.quantity ≤ (cx v at).quantity
 
 pub record Homes (v : Venue) : Type 0 where
@@ -127,7 +127,7 @@ pub home_same : {v w : Venue} {n : ℕ} {l : Legging} → w.complex ≡ v.comple
 home_same {v} {w} e h = record {
   at = h.at;
   fits = rw e h.fits;
-  id = ap (λ (x : List Complex). (get_or x h.at noComplex).id) e ∙ h.id;
+  id = ap (λ (x : List Complex). (get_or x h.at no_complex).id) e ∙ h.id;
   leg = rw e h.leg;
   even = rw e h.even;
   enough = rw e h.enough;
@@ -137,21 +137,21 @@ pub homes-thin : {v w : Venue} → w.complex ≡ v.complex → length w.legging 
 unfolding SameOrGone
 homes-thin {v} {w} e len k h = record { len = len ∙ h.len; home = λ n. go n (k n) }
   where
-    go : (n : ℕ) → (lg w n ≡ lg v n) ⊎ (lg w n ≡ noLegging) → held (lg w n).quantity ≡ true → Home w n (lg w n)
+    go : (n : ℕ) → (lg w n ≡ lg v n) ⊎ (lg w n ≡ no_legging) → held (lg w n).quantity ≡ true → Home w n (lg w n)
     go n (inl p) t = rw p (home_same e (h.home n (rw p at t)))
     go n (inr p) t = absurd (false≢true (rw p at t))
 
 pub homes-remove : (f : ℕ → Legging → Verdict) (v : Venue) → Homes v → Homes (remove f v).venue
-unfolding remove withLegging
+unfolding remove with_legging
 homes-remove f v h = homes-thin refl (length-stayers f 0 v.legging) (stayers-kept f 0 v.legging) h
 
 pub homes_same : {v w : Venue} → w.complex ≡ v.complex → w.legging ≡ v.legging → Homes v → Homes w
 unfolding SameOrGone
-homes_same {v} {w} e l h = homes-thin e (ap length l) (λ n. inl (ap (λ (x : List Legging). get_or x n noLegging) l)) h
+homes_same {v} {w} e l h = homes-thin e (ap length l) (λ n. inl (ap (λ (x : List Legging). get_or x n no_legging) l)) h
 
 -- an order is filled, and its legging orders go
-pub homes-fill : (j k : ℕ) (c : Cause) (v : Venue) → Homes v → Homes (removeOf (cx v j).id c (fillComplex j k v)).venue
-unfolding removeOf remove withLegging fillComplex withComplex
+pub homes-fill : (j k : ℕ) (c : Cause) (v : Venue) → Homes v → Homes (remove_of (cx v j).id c (fill_complex j k v)).venue
+unfolding remove_of remove with_legging fill_complex with_complex
 homes-fill j k c v h = record {
   len = length-stayers _ 0 v.legging ∙ h.len;
   home = λ n t.
@@ -160,9 +160,9 @@ homes-fill j k c v h = record {
       rw p.0 (moved n (lg v n) old (λ e. p.1 (ap (λ (x : Legging). x.parent) p.0 ∙ sym old.id ∙ ap (λ (a : ℕ). (cx v a).id) e)));
 }
   where
-    moved : (n : ℕ) (l : Legging) (o : Home v n l) → o.at ≢ j → Home (removeOf (cx v j).id c (fillComplex j k v)).venue n l
+    moved : (n : ℕ) (l : Legging) (o : Home v n l) → o.at ≢ j → Home (remove_of (cx v j).id c (fill_complex j k v)).venue n l
     moved n l o ne =
-        let s = get_or-set_other v.complex j o.at (lessComplex k (complexAt v j)) noComplex ne in
+        let s = get_or-set_other v.complex j o.at (less_complex k (complex_at v j)) no_complex ne in
         record {
           at = o.at;
           fits = rw length-set o.fits;
@@ -173,9 +173,9 @@ homes-fill j k c v h = record {
         }
 
 -- k of the order at place j are paired
-pub homes-pairOff : (j id : ℕ) (n : ℤ) (k : ℕ) (v : Venue) → id ≡ (cx v j).id → Homes v → Homes (pairOff j id n k v).venue
-unfolding pairOff report ◌⟫◌
-homes-pairOff j id n k v e h = rw e (homes-fill j k Executed v h)
+pub homes-pair_off : (j id : ℕ) (n : ℤ) (k : ℕ) (v : Venue) → id ≡ (cx v j).id → Homes v → Homes (pair_off j id n k v).venue
+unfolding pair_off report ◌⟫◌
+homes-pair_off j id n k v e h = rw e (homes-fill j k Executed v h)
 
 pub record Fine (v : Venue) : Type 0 where
   pub good : Good v
@@ -187,10 +187,10 @@ module _ (v : Venue) (g : Good v) (j : ℕ) (f : j < length v.complex) (h : held
   only : (i : ℕ) → held (cx v i).quantity ≡ true → (cx v i).id ≡ (cx v j).id → i ≡ j
   only i q e = good-xx g i j q h e
 
-  pub place_at : placeWhere (isComplexOf (cx v j).id) v.complex ≡ j
+  pub place_at : place_where (is_complex_of (cx v j).id) v.complex ≡ j
   place_at = (place_is v.complex j f h only).0
 
-  pub found : findComplex (cx v j).id v.complex ≡ cx v j
+  pub found : find_complex (cx v j).id v.complex ≡ cx v j
   found = (place_is v.complex j f h only).1
 
 -- the parent of a legging order is the one at its home, and its other leg is in another series
@@ -201,11 +201,11 @@ module _ (v : Venue) (f : Fine v) (n : ℕ) (h : held (lg v n).quantity ≡ true
   pub home-held : held (cx v home.at).quantity ≡ true
   home-held = let z = held-pos (lg v n).quantity h in let e = home.enough in pos-held (cx v home.at).quantity (omega arith)
 
-  pub parent-found : parentOf v (lg v n) ≡ cx v home.at
-  unfolding parentOf
+  pub parent-found : parent_of v (lg v n) ≡ cx v home.at
+  unfolding parent_of
   parent-found = rw (← home.id) (found v f.good home.at home.fits home-held)
 
-  pub other-apart : n / 2 ≢ (otherLeg (cx v home.at) (n / 2)).series
+  pub other-apart : n / 2 ≢ (other_leg (cx v home.at) (n / 2)).series
   other-apart = go (leg-series (cx v home.at) _ _ home.leg)
     where
       c : Complex
@@ -214,17 +214,17 @@ module _ (v : Venue) (f : Fine v) (n : ℕ) (h : held (lg v n).quantity ≡ true
       ne : c.series1 ≢ c.series2
       ne = (f.good.ranges home.at home-held).apart
 
-      go : (n / 2 ≡ c.series1) ⊎ (n / 2 ≡ c.series2) → n / 2 ≢ (otherLeg c (n / 2)).series
+      go : (n / 2 ≡ c.series1) ⊎ (n / 2 ≡ c.series2) → n / 2 ≢ (other_leg c (n / 2)).series
       go (inl e) x = ne (sym e ∙ x ∙ other-is₂ c (n / 2) (sym e))
       go (inr e) x = ne (sym (sym e ∙ x ∙ other-is₁ c (n / 2) (λ y. ne (y ∙ e))))
 
 -- an order that is one to one
-pub even-first : (c : Complex) → oneToOne c ≡ true → c.ratio1 ≡ 1
-unfolding oneToOne
+pub even-first : (c : Complex) → one_to_one c ≡ true → c.ratio1 ≡ 1
+unfolding one_to_one
 even-first c e = eqb-true c.ratio1 1 (and_l (eqb c.ratio1 1) (eqb c.ratio2 1) e)
 
-pub even-second : (c : Complex) → oneToOne c ≡ true → c.ratio2 ≡ 1
-unfolding oneToOne
+pub even-second : (c : Complex) → one_to_one c ≡ true → c.ratio2 ≡ 1
+unfolding one_to_one
 even-second c e = eqb-true c.ratio2 1 (and_r (eqb c.ratio1 1) (eqb c.ratio2 1) e)
 
 -- Between messages ----------------------------------------------------------------------------
@@ -233,8 +233,8 @@ even-second c e = eqb-true c.ratio2 1 (and_r (eqb c.ratio1 1) (eqb c.ratio2 1) e
 pub record Tidy (v : Venue) : Type 0 where
   pub dense1 : (i j : ℕ) → i < j → held (reg v j).quantity ≡ true → held (reg v i).quantity ≡ true
   pub dense2 : (i j : ℕ) → i < j → held (cx v j).quantity ≡ true → held (cx v i).quantity ≡ true
-  pub blank1 : (i : ℕ) → held (reg v i).quantity ≡ false → blankRegular (reg v i) ≡ true
-  pub blank2 : (i : ℕ) → held (cx v i).quantity ≡ false → blankComplex (cx v i) ≡ true
+  pub blank1 : (i : ℕ) → held (reg v i).quantity ≡ false → blank_regular (reg v i) ≡ true
+  pub blank2 : (i : ℕ) → held (cx v i).quantity ≡ false → blank_complex (cx v i) ≡ true
 
 -- a free place is after every held one
 after-all : (h : ℕ → Bool) → ((i j : ℕ) → i < j → h j ≡ true → h i ≡ true) → (i : ℕ) → h i ≡ false → (n : ℕ) → h n ≡ true → n < i
@@ -258,7 +258,7 @@ Uncrossed v = (s a b : ℕ) → s < 8 → Own v s buy a → Own v s sell b → a
 -- editions: their places, and that they rise in both numbers
 pub record Edited (v : Venue) : Type 0 where
   pub len : length v.editions ≡ 32
-  pub rise : editionsSound v ≡ true
+  pub rise : editions_sound v ≡ true
 
 pub record Invariant (v : Venue) : Type 0 where
   pub fine : Fine v

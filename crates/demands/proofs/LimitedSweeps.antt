@@ -16,30 +16,30 @@ use Rattle.rules.specs.declared.Message.{Message}
 use Rattle.rules.specs.declared.Message.TheVariants.{Away, Cancel, Increment, LimitedSweep, Order, Percent, Status, Sweep, TwoLeg}
 use Rattle.rules.specs.declared.Venue.{Venue}
 use Rattle.rules.specs.Base.{held, if◌then◌else◌, keep}
-use Rattle.rules.specs.Words.{complexAt, isId, noComplex, withComplex, withEditions, withGenerations, with_last, withLegging, withReached, withRegular, withSeries, within}
-use Rattle.rules.specs.Settings.{enterEdition}
-use Rattle.rules.specs.Messages.{messageForm, messageOf}
+use Rattle.rules.specs.Words.{complex_at, is_id, no_complex, with_complex, with_editions, with_generations, with_last, with_legging, with_reached, with_regular, with_series, within}
+use Rattle.rules.specs.Settings.{enter_edition}
+use Rattle.rules.specs.Messages.{message_form, message_of}
 use Rattle.rules.specs.Records.{Report, looked}
 use Rattle.rules.specs.Effects.{Effect, ◌⟫◌, nothing, report}
 use Rattle.rules.specs.Removal.{remove}
-use Rattle.rules.specs.Standing.{settle, showAgain}
-use Rattle.rules.specs.Trading.{fillComplex, fillRegular, putComplex, putRegular}
-use Rattle.rules.specs.Order.{enterRegular, order}
-use Rattle.rules.specs.Generation.{counted, generate, generateLeg, make, makes, placed}
-use Rattle.rules.specs.Complex.{complex, eachOf, examined, goingRound, idReached, limitedSweep, places_of, sweep, work}
-use Rattle.rules.specs.Places.{closeGaps}
-use Rattle.rules.specs.Refusals.{complexInRange, refusal, twoLegInRange}
-use Rattle.rules.specs.Step.{accept, answered, perform, setAway, setFigure, setStatus, step}
+use Rattle.rules.specs.Standing.{settle, show_again}
+use Rattle.rules.specs.Trading.{fill_complex, fill_regular, put_complex, put_regular}
+use Rattle.rules.specs.Order.{enter_regular, order}
+use Rattle.rules.specs.Generation.{counted, generate, generate_leg, make, makes, placed}
+use Rattle.rules.specs.Complex.{complex, each_of, examined, going_round, id_reached, limited_sweep, places_of, sweep, work}
+use Rattle.rules.specs.Places.{close_gaps}
+use Rattle.rules.specs.Refusals.{complex_in_range, refusal, two_leg_in_range}
+use Rattle.rules.specs.Step.{accept, answered, perform, set_away, set_figure, set_status, step}
 use Rattle.demands.specs.Soundness.{SoundAt, SoundVenue}
-use Rattle.demands.specs.Truth.{answer_of, venueAfter}
-use Rattle.demands.specs.LimitedSweeps.{Among, InTurn, Limited, LimitedSweeps, NoLook, Rises, Stays, last_of, looks, looksAll, looksBy, looksIn, resting, round}
+use Rattle.demands.specs.Truth.{answer_of, venue_after}
+use Rattle.demands.specs.LimitedSweeps.{Among, InTurn, Limited, LimitedSweeps, NoLook, Rises, Stays, last_of, looks, looks_all, looks_by, looks_in, resting, round}
 use Rattle.rules.proofs.CallsLaws.{step_by}
 use Rattle.rules.proofs.Cases.{if-by}
-use Rattle.rules.proofs.Filling.{FewerC, cx, fewerC-refl, fewerC-trans}
-use Rattle.rules.proofs.EffectsLaws.{Lasts, keeps-cancel, keeps-eachOf, keeps-matching, keeps-settle, keeps-work}
-use Rattle.rules.proofs.Quiet.{All, Others, all-cancel, all-eachOf, all-generate, all_nothing, all-order, all-settle, all_then, all-work}
+use Rattle.rules.proofs.Filling.{FewerC, cx, fewer_c-refl, fewer_c-trans}
+use Rattle.rules.proofs.EffectsLaws.{Lasts, keeps-cancel, keeps-each_of, keeps-matching, keeps-settle, keeps-work}
+use Rattle.rules.proofs.Quiet.{All, Others, all-cancel, all-each_of, all-generate, all_nothing, all-order, all-settle, all_then, all-work}
 use Rattle.rules.proofs.Sweeping.{fewer-lasts, generate-fewer}
-use Rattle.rules.proofs.Takers.{Works, told-eachOf, told-generate, told-remove, told-then, told-work}
+use Rattle.rules.proofs.Takers.{Works, told-each_of, told-generate, told-remove, told-then, told-work}
 use Rattle.rules.proofs.Tests.{and_l, and_r}
 use Rattle.rules.proofs.Traffic.{looked-count, round-all}
 use Rattle.demands.proofs.Calls.{stays-sound}
@@ -50,8 +50,8 @@ use Rattle.demands.proofs.SoundnessLaws.{sound-out}
 -- Ids -----------------------------------------------------------------------------------------
 
 -- orders in rising id by place have rising ids
-rises-from : (low : ℕ) (cs : List Complex) → ((i : ℕ) → held (get_or cs i noComplex).quantity ≡ true → low < (get_or cs i noComplex).id) →
-    ((i j : ℕ) → i < j → held (get_or cs i noComplex).quantity ≡ true → held (get_or cs j noComplex).quantity ≡ true → (get_or cs i noComplex).id < (get_or cs j noComplex).id) →
+rises-from : (low : ℕ) (cs : List Complex) → ((i : ℕ) → held (get_or cs i no_complex).quantity ≡ true → low < (get_or cs i no_complex).id) →
+    ((i j : ℕ) → i < j → held (get_or cs i no_complex).quantity ≡ true → held (get_or cs j no_complex).quantity ≡ true → (get_or cs i no_complex).id < (get_or cs j no_complex).id) →
     Rises low (map (λ (c : Complex). c.id) (keep (λ (c : Complex). held c.quantity) cs))
 unfolding keep
 rises-from low [] a r = tt
@@ -61,13 +61,13 @@ rises-from low (c ∷ cs) a r = go (held c.quantity) refl (λ low a. rises-from 
     tail = keep (λ (c : Complex). held c.quantity) cs
 
     go : (b : Bool) → held c.quantity ≡ b →
-        ((low : ℕ) → ((i : ℕ) → held (get_or cs i noComplex).quantity ≡ true → low < (get_or cs i noComplex).id) → Rises low (map (λ (c : Complex). c.id) tail)) →
+        ((low : ℕ) → ((i : ℕ) → held (get_or cs i no_complex).quantity ≡ true → low < (get_or cs i no_complex).id) → Rises low (map (λ (c : Complex). c.id) tail)) →
         Rises low (map (λ (c : Complex). c.id) (if b then c ∷ tail else tail))
     go true e on = (a 0 e, on c.id (λ i h. r 0 (suc i) (omega arith) e h))
     go false e on = on low (λ i h. a (suc i) h)
 
-some_id : (c : Complex) → complexInRange c ≡ true → 0 < c.id
-unfolding complexInRange twoLegInRange isId within
+some_id : (c : Complex) → complex_in_range c ≡ true → 0 < c.id
+unfolding complex_in_range two_leg_in_range is_id within
 some_id c h = let a = leb-true 1 c.id (search (and_l, and_r, h) depth 16) in omega arith
 
 resting-rises : (v : Venue) → Invariant v → Rises 0 (resting v)
@@ -76,18 +76,18 @@ resting-rises v k =
     rises-from 0 v.complex (λ i h. some_id (cx v i) ((k.ranged.complex i).ok h)) k.fine.good.rise2
 
 -- the ids at places that pass a test of ids
-ids-of : (all : List Complex) (g : ℕ → Bool) (n : ℕ) (cs : List Complex) → ((j : ℕ) → get_or all (n + j) noComplex ≡ get_or cs j noComplex) →
-    map (λ i. (get_or all i noComplex).id) (places_of (λ c. g c.id) n cs) ≡ keep g (map (λ (c : Complex). c.id) (keep (λ (c : Complex). held c.quantity) cs))
+ids-of : (all : List Complex) (g : ℕ → Bool) (n : ℕ) (cs : List Complex) → ((j : ℕ) → get_or all (n + j) no_complex ≡ get_or cs j no_complex) →
+    map (λ i. (get_or all i no_complex).id) (places_of (λ c. g c.id) n cs) ≡ keep g (map (λ (c : Complex). c.id) (keep (λ (c : Complex). held c.quantity) cs))
 unfolding places_of keep
 ids-of all g n [] same = refl
 ids-of all g n (c ∷ cs) same =
-    go (held c.quantity) (g c.id) refl (ids-of all g (suc n) cs (λ j. ap (λ (m : ℕ). get_or all m noComplex) (omega arith) ∙ same (suc j)))
+    go (held c.quantity) (g c.id) refl (ids-of all g (suc n) cs (λ j. ap (λ (m : ℕ). get_or all m no_complex) (omega arith) ∙ same (suc j)))
   where
     id : ℕ → ℕ
-    id i = (get_or all i noComplex).id
+    id i = (get_or all i no_complex).id
 
     here : id n ≡ c.id
-    here = ap (λ (m : ℕ). (get_or all m noComplex).id) (sym (add-zero n)) ∙ ap (λ (x : Complex). x.id) (same 0)
+    here = ap (λ (m : ℕ). (get_or all m no_complex).id) (sym (add-zero n)) ∙ ap (λ (x : Complex). x.id) (same 0)
 
     places : List ℕ
     places = places_of (λ c. g c.id) (suc n) cs
@@ -107,15 +107,15 @@ map-front f (suc n) [] = refl
 map-front f (suc n) (i ∷ is) = ap (λ (l : List ℕ). f i ∷ l) (map-front f n is)
 
 -- those that a limited sweep looks at
-places-looks : (n : ℕ) (v : Venue) → map (λ i. (complexAt v i).id) (take n (goingRound v)) ≡ looks n v
-unfolding looks round resting goingRound complexAt
+places-looks : (n : ℕ) (v : Venue) → map (λ i. (complex_at v i).id) (take n (going_round v)) ≡ looks n v
+unfolding looks round resting going_round complex_at
 places-looks n v =
-    let id : ℕ → ℕ = λ i. (get_or v.complex i noComplex).id in
+    let id : ℕ → ℕ = λ i. (get_or v.complex i no_complex).id in
     map-front id n _
     ∙ ap (take n) (map-append id (places_of (λ c. ltb v.reached c.id) 0 v.complex) (places_of (λ c. not (ltb v.reached c.id)) 0 v.complex)
     ∙ ap2 (ids-of v.complex (ltb v.reached) 0 v.complex same) (ids-of v.complex (λ i. not (ltb v.reached i)) 0 v.complex same))
   where
-    same : (j : ℕ) → get_or v.complex (0 + j) noComplex ≡ get_or v.complex j noComplex
+    same : (j : ℕ) → get_or v.complex (0 + j) no_complex ≡ get_or v.complex j no_complex
     same j = rw (zero-add j)
 
     ap2 : {a b c d : List ℕ} → a ≡ c → b ≡ d → a ++ b ≡ c ++ d
@@ -123,20 +123,20 @@ places-looks n v =
 
 looks-lesser : (n : ℕ) (v : Venue) → length (looks n v) ≡ examined n v
 looks-lesser n v =
-    ap (λ (l : List ℕ). length l) (sym (places-looks n v)) ∙ length-map (take n (goingRound v)) (λ i. (complexAt v i).id) ∙ looked-count n v
+    ap (λ (l : List ℕ). length l) (sym (places-looks n v)) ∙ length-map (take n (going_round v)) (λ i. (complex_at v i).id) ∙ looked-count n v
 
 resting-many : (n : ℕ) (v : Venue) → examined n v ≡ min n (length (resting v))
 unfolding examined resting
 resting-many n v = ap (min n) (round-all v ∙ sym (length-map (keep (λ (c : Complex). held c.quantity) v.complex) (λ c. c.id)))
 
-reached-last : (v : Venue) (places : List ℕ) → idReached v places ≡ last_of v.reached (map (λ i. (complexAt v i).id) places)
-unfolding idReached last_of
+reached-last : (v : Venue) (places : List ℕ) → id_reached v places ≡ last_of v.reached (map (λ i. (complex_at v i).id) places)
+unfolding id_reached last_of
 reached-last v [] = refl
 reached-last v (i ∷ []) = refl
 reached-last v (i ∷ j ∷ places) = reached-last v (j ∷ places)
 
-reached-looks : (n : ℕ) (v : Venue) → idReached v (take n (goingRound v)) ≡ last_of v.reached (looks n v)
-reached-looks n v = reached-last v (take n (goingRound v)) ∙ ap (last_of v.reached) (places-looks n v)
+reached-looks : (n : ℕ) (v : Venue) → id_reached v (take n (going_round v)) ≡ last_of v.reached (looks n v)
+reached-looks n v = reached-last v (take n (going_round v)) ∙ ap (last_of v.reached) (places-looks n v)
 
 -- What messages leave -------------------------------------------------------------------------
 
@@ -148,11 +148,11 @@ module _ (r : ℕ) where
   Reached v = v.reached ≡ r
 
   lasts : Lasts Reached
-  unfolding fillRegular fillComplex remove showAgain withRegular withComplex withLegging
-  lasts = record { fillR = λ i k v h. h; fillC = λ i k v h. h; gone = λ f v h. h; again = λ v h. h }
+  unfolding fill_regular fill_complex remove show_again with_regular with_complex with_legging
+  lasts = record { fill_r = λ i k v h. h; fill_c = λ i k v h. h; gone = λ f v h. h; again = λ v h. h }
 
-  leg-keeps : (n : ℕ) (c : Complex) (s d : ℕ) (v : Venue) → Reached v → Reached (generateLeg n c s d v).venue
-  unfolding generateLeg make report nothing ◌⟫◌ remove placed counted withLegging withGenerations
+  leg-keeps : (n : ℕ) (c : Complex) (s d : ℕ) (v : Venue) → Reached v → Reached (generate_leg n c s d v).venue
+  unfolding generate_leg make report nothing ◌⟫◌ remove placed counted with_legging with_generations
   leg-keeps n c s d v h = if-by (λ (e : Effect). Reached e.venue) (held c.quantity && makes n v c s d) (λ _. h) (λ _. h)
 
   -- an effect that leaves the id reached, and writes no 72
@@ -173,8 +173,8 @@ module _ (r : ℕ) where
   leaves-settle : (v : Venue) → Reached v → Leaves (settle v)
   leaves-settle v h = record { left = keeps-settle lasts v h; silent = all-settle NoLook no-look v }
 
-  leaves-closed : (v : Venue) → Reached v → Leaves (nothing (closeGaps v))
-  leaves-closed v h = record { left = unfold nothing closeGaps withRegular withComplex in h; silent = all_nothing NoLook no-look _ }
+  leaves-closed : (v : Venue) → Reached v → Leaves (nothing (close_gaps v))
+  leaves-closed v h = record { left = unfold nothing close_gaps with_regular with_complex in h; silent = all_nothing NoLook no-look _ }
 
   says-work : (i : ℕ) (v : Venue) → All NoLook (work i v)
   says-work = all-work NoLook no-look (λ _ _ _ _. tt)
@@ -192,15 +192,15 @@ module _ (r : ℕ) where
   leaves-generate : (n i : ℕ) (v : Venue) → Reached v → Leaves (generate n i v)
   leaves-generate n i v h = record { left = generate-keeps n i v h; silent = says-generate n i v }
 
-  leaves-eachOf : (f : ℕ → Venue → Effect) → ((i : ℕ) (v : Venue) → Reached v → Reached (f i v).venue) → ((i : ℕ) (v : Venue) → All NoLook (f i v)) →
-      (places : List ℕ) (v : Venue) → Reached v → Leaves (eachOf f places v)
-  leaves-eachOf f ok says places v h = record { left = keeps-eachOf Reached f ok places v h; silent = all-eachOf NoLook no-look f says places v }
+  leaves-each_of : (f : ℕ → Venue → Effect) → ((i : ℕ) (v : Venue) → Reached v → Reached (f i v).venue) → ((i : ℕ) (v : Venue) → All NoLook (f i v)) →
+      (places : List ℕ) (v : Venue) → Reached v → Leaves (each_of f places v)
+  leaves-each_of f ok says places v h = record { left = keeps-each_of Reached f ok places v h; silent = all-each_of NoLook no-look f says places v }
 
   -- every message but a limited sweep
   leaves-perform : (n : ℕ) (m : Message) (v : Venue) → ((k : ℕ) → m ≢ LimitedSweep k) → Reached v → Leaves (perform n m v)
-  unfolding perform complex putComplex sweep setAway setStatus setFigure enterEdition withComplex withSeries withEditions with_last
+  unfolding perform complex put_complex sweep set_away set_status set_figure enter_edition with_complex with_series with_editions with_last
   leaves-perform n (Order o) v but h = record {
-    left = unfold order enterRegular putRegular withRegular with_last ◌⟫◌ in (keeps-settle lasts _ (keeps-matching lasts _ _ _ h));
+    left = unfold order enter_regular put_regular with_regular with_last ◌⟫◌ in (keeps-settle lasts _ (keeps-matching lasts _ _ _ h));
     silent = all-order NoLook no-look o _;
   }
   leaves-perform n (TwoLeg c) v but h = leaves-on _ _ (leaves-on _ settle (leaves-work _ _ h) leaves-settle) (leaves-generate n _)
@@ -208,7 +208,7 @@ module _ (r : ℕ) where
   leaves-perform n (Away s b o) v but h = leaves-settle _ h
   leaves-perform n (Status s x) v but h = leaves-settle _ h
   leaves-perform n Sweep v but h =
-      leaves-on _ _ (leaves-on _ settle (leaves-eachOf work (keeps-work lasts) says-work _ v h) leaves-settle) (leaves-eachOf (generate n) (generate-keeps n) (says-generate n) _)
+      leaves-on _ _ (leaves-on _ settle (leaves-each_of work (keeps-work lasts) says-work _ v h) leaves-settle) (leaves-each_of (generate n) (generate-keeps n) (says-generate n) _)
   leaves-perform n (Increment s i e) v but h = leaves-settle _ h
   leaves-perform n (Percent x e) v but h = leaves-settle _ h
   leaves-perform n (LimitedSweep k) v but h = absurd (but k refl)
@@ -222,74 +222,74 @@ mem-map f (Memᴰ.tail m) = Memᴰ.tail (mem-map f m)
 -- a sweep of the orders at some places of v, on books that have no more of each complex order
 module _ (v : Venue) (places : List ℕ) where
   abbrev ids : List ℕ
-  ids = map (λ i. (complexAt v i).id) places
+  ids = map (λ i. (complex_at v i).id) places
 
   abbrev Since : Venue → Type 0
   Since w = FewerC w.complex v.complex
 
-  own : (i : ℕ) → Memᴰ i places → (w : Venue) → Since w → Memᴰ (complexAt w i).id ids
-  unfolding complexAt
-  own i m w h = Memᴰ.cast (h.lesser i).id (mem-map (λ i. (complexAt v i).id) m)
+  own : (i : ℕ) → Memᴰ i places → (w : Venue) → Since w → Memᴰ (complex_at w i).id ids
+  unfolding complex_at
+  own i m w h = Memᴰ.cast (h.lesser i).id (mem-map (λ i. (complex_at v i).id) m)
 
   works : (x : ℕ) → Memᴰ x ids → Works (Among ids) x
   works x m = record { takes = record { trades = λ _ _ _ _ _. m; pairs = λ _ _. m; removals = λ _ _ _ _. tt }; crosses = λ _ _ _. m }
 
-  among-work : (w : Venue) → Since w → All (Among ids) (eachOf work places w)
-  among-work = told-eachOf (Among ids) Since work places (λ i m w h. (told-work (Among ids) i w (works _ (own i m w h)), keeps-work (fewer-lasts v) i w h))
+  among-work : (w : Venue) → Since w → All (Among ids) (each_of work places w)
+  among-work = told-each_of (Among ids) Since work places (λ i m w h. (told-work (Among ids) i w (works _ (own i m w h)), keeps-work (fewer-lasts v) i w h))
 
   among-settle : (w : Venue) → All (Among ids) (settle w)
   unfolding settle
   among-settle w = told-remove (Among ids) (λ _ _ _ _. tt) _ _
 
-  among-generate : (number : ℕ) (w : Venue) → Since w → All (Among ids) (eachOf (generate number) places w)
+  among-generate : (number : ℕ) (w : Venue) → Since w → All (Among ids) (each_of (generate number) places w)
   among-generate number =
-      told-eachOf (Among ids) Since (generate number) places
-      (λ i m w h. (told-generate (Among ids) (λ _ _ _ _. tt) number i w (λ _ _ _ _ _. own i m w h), fewerC-trans (generate-fewer number i w) h))
+      told-each_of (Among ids) Since (generate number) places
+      (λ i m w h. (told-generate (Among ids) (λ _ _ _ _. tt) number i w (λ _ _ _ _ _. own i m w h), fewer_c-trans (generate-fewer number i w) h))
 
-  settled-since : (w : Venue) → Since w → Since (eachOf work places w ⟫ settle).venue
+  settled-since : (w : Venue) → Since w → Since (each_of work places w ⟫ settle).venue
   unfolding ◌⟫◌
-  settled-since w h = keeps-settle (fewer-lasts v) _ (keeps-eachOf Since work (keeps-work (fewer-lasts v)) places w h)
+  settled-since w h = keeps-settle (fewer-lasts v) _ (keeps-each_of Since work (keeps-work (fewer-lasts v)) places w h)
 
-  pub among-sweep : (number : ℕ) (w : Venue) → Since w → All (Among ids) (eachOf work places w ⟫ settle ⟫ eachOf (generate number) places)
+  pub among-sweep : (number : ℕ) (w : Venue) → Since w → All (Among ids) (each_of work places w ⟫ settle ⟫ each_of (generate number) places)
   among-sweep number w h =
       told-then (Among ids) _ _ (told-then (Among ids) _ _ (among-work w h) (among-settle _)) (among-generate number _ (settled-since w h))
 
 -- a limited sweep from its 72 on, and the gaps closed
 after_look : (number n : ℕ) → Venue → Effect
 after_look number n v =
-    let places = take n (goingRound v) in
-    eachOf work places (withReached v (idReached v places)) ⟫ settle ⟫ eachOf (generate number) places ⟫ (λ w. nothing (closeGaps w))
+    let places = take n (going_round v) in
+    each_of work places (with_reached v (id_reached v places)) ⟫ settle ⟫ each_of (generate number) places ⟫ (λ w. nothing (close_gaps w))
 
 after-leaves : (number n : ℕ) (v : Venue) → Leaves (last_of v.reached (looks n v)) (after_look number n v)
-unfolding after_look withReached
+unfolding after_look with_reached
 after-leaves number n v =
     let r = last_of v.reached (looks n v) in
-    leaves-on r _ _ (leaves-on r _ _ (leaves-on r _ settle (leaves-eachOf r work (keeps-work (lasts r)) (says-work r) _ _ (reached-looks n v)) (leaves-settle r))
-    (leaves-eachOf r (generate number) (generate-keeps r number) (says-generate r number) _)) (leaves-closed r)
+    leaves-on r _ _ (leaves-on r _ _ (leaves-on r _ settle (leaves-each_of r work (keeps-work (lasts r)) (says-work r) _ _ (reached-looks n v)) (leaves-settle r))
+    (leaves-each_of r (generate number) (generate-keeps r number) (says-generate r number) _)) (leaves-closed r)
 
 after-among : (number n : ℕ) (v : Venue) → All (Among (looks n v)) (after_look number n v)
-unfolding after_look nothing withReached
+unfolding after_look nothing with_reached
 after-among number n v =
-    let places = take n (goingRound v) in
+    let places = take n (going_round v) in
     subst (λ (ids : List ℕ). All (Among ids) (after_look number n v)) (places-looks n v)
-    (told-then (Among (ids v places)) _ _ (among-sweep v places number _ (fewerC-refl _)) tt)
+    (told-then (Among (ids v places)) _ _ (among-sweep v places number _ (fewer_c-refl _)) tt)
 
 sweep-reports : (number n : ℕ) (v : Venue) → (accept number (LimitedSweep n) v).reports ≡ looked (examined n v) ∷ (after_look number n v).reports
-unfolding accept perform limitedSweep report ◌⟫◌ after_look
+unfolding accept perform limited_sweep report ◌⟫◌ after_look
 sweep-reports number n v = refl
 
 sweep-venue : (number n : ℕ) (v : Venue) → (accept number (LimitedSweep n) v).venue ≡ (after_look number n v).venue
-unfolding accept perform limitedSweep report ◌⟫◌ after_look
+unfolding accept perform limited_sweep report ◌⟫◌ after_look
 sweep-venue number n v = refl
 
 -- One message ---------------------------------------------------------------------------------
 
-accepted-is : (v : Venue) (number : ℕ) (bs : List ℕ) (m : Message) → messageOf bs ≡ m → refusal v bs ≡ 0 →
-    (if eqb (refusal v bs) 0 then accept number (messageOf bs) v else nothing v) ≡ accept number m v
+accepted-is : (v : Venue) (number : ℕ) (bs : List ℕ) (m : Message) → message_of bs ≡ m → refusal v bs ≡ 0 →
+    (if eqb (refusal v bs) 0 then accept number (message_of bs) v else nothing v) ≡ accept number m v
 accepted-is v number bs m is ok = rw (eq-eqb (refusal v bs) 0 ok, is)
 
-limited : (v : Venue) → SoundVenue v → (number : ℕ) (bs : List ℕ) (n : ℕ) → messageOf bs ≡ LimitedSweep n → refusal v bs ≡ 0 → Limited v number bs n
-unfolding step answered answer_of venueAfter
+limited : (v : Venue) → SoundVenue v → (number : ℕ) (bs : List ℕ) (n : ℕ) → message_of bs ≡ LimitedSweep n → refusal v bs ≡ 0 → Limited v number bs n
+unfolding step answered answer_of venue_after
 limited v s number bs n is ok = record {
   rising = resting-rises v (sound-out v s);
   lesser = looks-lesser n v ∙ resting-many n v;
@@ -306,15 +306,15 @@ limited v s number bs n is ok = record {
         ap (λ (e : Effect). answer_of v number bs ∷ e.reports) (accepted-is v number bs (LimitedSweep n) is ok)
         ∙ ap (λ (rs : List Report). answer_of v number bs ∷ rs) (sweep-reports number n v ∙ ap (λ (k : ℕ). looked k ∷ (after_look number n v).reports) (sym (looks-lesser n v)))
 
-    reached : (venueAfter v number bs).reached ≡ last_of v.reached (looks n v)
+    reached : (venue_after v number bs).reached ≡ last_of v.reached (looks n v)
     reached = ap (λ (e : Effect). e.venue.reached) (accepted-is v number bs (LimitedSweep n) is ok) ∙ ap (λ (w : Venue). w.reached) (sweep-venue number n v) ∙ (after-leaves number n v).left
 
 -- refused, or another
-other : (v : Venue) (number : ℕ) (bs : List ℕ) → ((n : ℕ) → messageOf bs ≡ LimitedSweep n → refusal v bs ≢ 0) → Leaves v.reached (step v number bs).effect
+other : (v : Venue) (number : ℕ) (bs : List ℕ) → ((n : ℕ) → message_of bs ≡ LimitedSweep n → refusal v bs ≢ 0) → Leaves v.reached (step v number bs).effect
 unfolding step answered
 other v number bs but =
     let e = step_by (Leaves v.reached) v number bs
-    (λ ok. unfold accept in (leaves-on v.reached _ _ (leaves-perform v.reached number (messageOf bs) v (λ n is. but n is ok) refl) (leaves-closed v.reached)))
+    (λ ok. unfold accept in (leaves-on v.reached _ _ (leaves-perform v.reached number (message_of bs) v (λ n is. but n is ok) refl) (leaves-closed v.reached)))
     (λ _. record { left = unfold nothing in refl; silent = all_nothing NoLook no-look v }) in
     record { left = e.left; silent = (tt, e.silent) }
 
@@ -323,13 +323,13 @@ other v number bs but =
 -- a message that is a limited sweep, or another
 data Kind (m : Message) : Type 0 where
   sweeps : (n : ℕ) → m ≡ LimitedSweep n → Kind m
-  another : ((n : ℕ) → m ≢ LimitedSweep n) → ((v : Venue) → looksBy m v ≡ []) → Kind m
+  another : ((n : ℕ) → m ≢ LimitedSweep n) → ((v : Venue) → looks_by m v ≡ []) → Kind m
 
-lower : (m : Message) → messageForm m < 9 → (n : ℕ) → m ≢ LimitedSweep n
-lower m l n e = let q : messageForm m ≡ 9 = ap messageForm e in omega arith
+lower : (m : Message) → message_form m < 9 → (n : ℕ) → m ≢ LimitedSweep n
+lower m l n e = let q : message_form m ≡ 9 = ap message_form e in omega arith
 
 kind-of : (m : Message) → Kind m
-unfolding looksBy
+unfolding looks_by
 kind-of (Order o) = another (lower _ (omega arith)) (λ _. refl)
 kind-of (TwoLeg c) = another (lower _ (omega arith)) (λ _. refl)
 kind-of (Cancel id) = another (lower _ (omega arith)) (λ _. refl)
@@ -342,34 +342,34 @@ kind-of (LimitedSweep n) = sweeps n refl
 
 -- what one message looks at, and what it leaves
 data Does (v : Venue) (number : ℕ) (bs : List ℕ) : Type 0 where
-  idle : looksIn v bs ≡ [] → (venueAfter v number bs).reached ≡ v.reached → Does v number bs
-  looking : (n : ℕ) → looksIn v bs ≡ looks n v → (venueAfter v number bs).reached ≡ last_of v.reached (looks n v) → Does v number bs
+  idle : looks_in v bs ≡ [] → (venue_after v number bs).reached ≡ v.reached → Does v number bs
+  looking : (n : ℕ) → looks_in v bs ≡ looks n v → (venue_after v number bs).reached ≡ last_of v.reached (looks n v) → Does v number bs
 
 does : (v : Venue) → SoundVenue v → (number : ℕ) (bs : List ℕ) → Does v number bs
-unfolding looksIn
-does v s number bs = go (eqb (refusal v bs) 0) refl (kind-of (messageOf bs))
+unfolding looks_in
+does v s number bs = go (eqb (refusal v bs) 0) refl (kind-of (message_of bs))
   where
-    left : ((n : ℕ) → messageOf bs ≡ LimitedSweep n → refusal v bs ≢ 0) → (venueAfter v number bs).reached ≡ v.reached
-    left but = unfold venueAfter in (other v number bs but).left
+    left : ((n : ℕ) → message_of bs ≡ LimitedSweep n → refusal v bs ≢ 0) → (venue_after v number bs).reached ≡ v.reached
+    left but = unfold venue_after in (other v number bs but).left
 
-    go : (b : Bool) → eqb (refusal v bs) 0 ≡ b → Kind (messageOf bs) → Does v number bs
+    go : (b : Bool) → eqb (refusal v bs) 0 ≡ b → Kind (message_of bs) → Does v number bs
     go true e (sweeps n is) =
-        looking n (rw (e, is) (unfold looksBy in refl)) (limited v s number bs n is (eqb-true (refusal v bs) 0 e)).reached
+        looking n (rw (e, is) (unfold looks_by in refl)) (limited v s number bs n is (eqb-true (refusal v bs) 0 e)).reached
     go true e (another but none) = idle (rw e (none v)) (left (λ n is _. but n is))
     go false e k = idle (rw e) (left (λ n _. eqb-false (refusal v bs) 0 e))
 
 module _ (x y : ℕ) (apart : x < y) where
   -- from the id reached on, x and y by turns
-  turns : (v : Venue) (n : ℕ) → SoundAt (suc n) v → (ms : List (List ℕ)) → n + length ms < 4294967296 → Stays x v n ms → Stays y v n ms → Turns x y v.reached (looksAll v n ms)
-  unfolding looksAll
+  turns : (v : Venue) (n : ℕ) → SoundAt (suc n) v → (ms : List (List ℕ)) → n + length ms < 4294967296 → Stays x v n ms → Stays y v n ms → Turns x y v.reached (looks_all v n ms)
+  unfolding looks_all
   turns v n s [] few sx sy = no-turns x y v.reached
   turns v n s (m ∷ ms) few sx sy =
-      go (does v s.venue (suc n) m) (turns (venueAfter v (suc n) m) (suc n) (unfold venueAfter in (stays-sound v (suc n) (omega arith) s m)) ms (omega arith) sx.1 sy.1)
+      go (does v s.venue (suc n) m) (turns (venue_after v (suc n) m) (suc n) (unfold venue_after in (stays-sound v (suc n) (omega arith) s m)) ms (omega arith) sx.1 sy.1)
     where
       rest : List ℕ
-      rest = looksAll (venueAfter v (suc n) m) (suc n) ms
+      rest = looks_all (venue_after v (suc n) m) (suc n) ms
 
-      go : Does v (suc n) m → Turns x y (venueAfter v (suc n) m).reached rest → Turns x y v.reached (looksIn v m ++ rest)
+      go : Does v (suc n) m → Turns x y (venue_after v (suc n) m).reached rest → Turns x y v.reached (looks_in v m ++ rest)
       go (idle none same) t = rw none (subst (λ (p : ℕ). Turns x y p rest) same t)
       go (looking k are last) t =
           rw are (along x y apart v.reached (looks k v) rest
@@ -386,7 +386,7 @@ module _ (x y : ℕ) (apart : x < y) where
   ]
 
 in-turn : (v : Venue) (n : ℕ) → SoundAt (suc n) v → (ms : List (List ℕ)) → n + length ms < 4294967296 → (x y : ℕ) → x ≢ y → Stays x v n ms → Stays y v n ms →
-    InTurn x y (looksAll v n ms) ⊎ InTurn y x (looksAll v n ms)
+    InTurn x y (looks_all v n ms) ⊎ InTurn y x (looks_all v n ms)
 in-turn v n s ms few x y ne sx sy = elim (dec_lt x y) [
   | yes l ↦ either x y l _ _ (turns x y l v n s ms few sx sy)
   | no a ↦ let l : y < x = omega arith in ⊎_swap (either y x l _ _ (turns y x l v n s ms few sy sx))
@@ -394,7 +394,7 @@ in-turn v n s ms few x y ne sx sy = elim (dec_lt x y) [
 
 pub limited-sweeps : LimitedSweeps
 limited-sweeps = record {
-  looksAt = limited;
-  others = λ v number bs but. let k = other v number bs but in (unfold venueAfter in k.left, k.silent);
+  looks_at = limited;
+  others = λ v number bs but. let k = other v number bs but in (unfold venue_after in k.left, k.silent);
   in_turn = in-turn;
 }

@@ -15,38 +15,38 @@ use Rattle.rules.specs.declared.Message.TheVariants.{Away, Cancel, Increment, Li
 use Rattle.rules.specs.declared.Regular.{Regular}
 use Rattle.rules.specs.declared.Venue.{Venue}
 use Rattle.rules.specs.Base.{held}
-use Rattle.rules.specs.Words.{complexAt, isComplexOf, isRegularOf, noComplex, noRegular, regularAt, withComplex, withEditions, with_last, withRegular, withSeries}
-use Rattle.rules.specs.Settings.{enterEdition, percentage}
-use Rattle.rules.specs.Messages.{messageOf}
+use Rattle.rules.specs.Words.{complex_at, is_complex_of, is_regular_of, no_complex, no_regular, regular_at, with_complex, with_editions, with_last, with_regular, with_series}
+use Rattle.rules.specs.Settings.{enter_edition, percentage}
+use Rattle.rules.specs.Messages.{message_of}
 use Rattle.rules.specs.Records.{Report, answer}
 use Rattle.rules.specs.Effects.{Effect, ◌⟫◌, nothing, report}
 use Rattle.rules.specs.Standing.{settle}
-use Rattle.rules.specs.Trading.{fillRegular, freeComplex, freeRegular, putComplex, putRegular}
-use Rattle.rules.specs.Order.{enterRegular, order}
-use Rattle.rules.specs.Complex.{cancel, cancelComplex, cancelRegular, complex, complexPlace, regularPlace, restsComplex, restsRegular, work}
-use Rattle.rules.specs.Refusals.{full, idTooLow, refusal, unknown}
-use Rattle.rules.specs.Step.{accept, answered, perform, setAway, setFigure, setStatus, step}
+use Rattle.rules.specs.Trading.{fill_regular, free_complex, free_regular, put_complex, put_regular}
+use Rattle.rules.specs.Order.{enter_regular, order}
+use Rattle.rules.specs.Complex.{cancel, cancel_complex, cancel_regular, complex, complex_place, regular_place, rests_complex, rests_regular, work}
+use Rattle.rules.specs.Refusals.{full, id_too_low, refusal, unknown}
+use Rattle.rules.specs.Step.{accept, answered, perform, set_away, set_figure, set_status, step}
 use Rattle.rules.specs.Sound.{follows}
-use Rattle.rules.specs.Sums.{cancelledOf, contracts, crossedFor, paired, total}
+use Rattle.rules.specs.Sums.{cancelled_of, contracts, crossed_for, paired, total}
 use Rattle.rules.proofs.AllSettled.{settle-all, settled}
 use Rattle.rules.proofs.Answering.{told}
 use Rattle.rules.proofs.CallsLaws.{left, step_by}
 use Rattle.rules.proofs.Cases.{if-by}
 use Rattle.rules.proofs.Dating.{some_number, step-priced, step-rises, steps-settled, steps-work}
 use Rattle.rules.proofs.Editions.{Stepped, dated-steps, steps-same}
-use Rattle.rules.proofs.Filling.{cx, held_fits, held-fitsC, reg}
+use Rattle.rules.proofs.Filling.{cx, held_fits, held-fits_c, reg}
 use Rattle.rules.proofs.Finding.{where-passes}
 use Rattle.rules.proofs.Generating.{AllStand, new}
 use Rattle.rules.proofs.Ledger.{Moved, moved-silent, moved-trans, silent-nil}
-use Rattle.rules.proofs.Moving.{moves-cancelComplex, moves-cancelRegular}
-use Rattle.rules.proofs.RefusalsLaws.{Passed, accepted, wellFormed}
+use Rattle.rules.proofs.Moving.{moves-cancel_complex, moves-cancel_regular}
+use Rattle.rules.proofs.RefusalsLaws.{Passed, accepted, well_formed}
 use Rattle.rules.proofs.Showing.{step-showing}
 use Rattle.rules.proofs.Shapes.{Sized, step-sized}
 use Rattle.rules.proofs.Traffic.{step-busy, step-reached}
 use Rattle.rules.proofs.Tests.{and_l, or_r}
 use Rattle.demands.proofs.Account.{Takes}
 use Rattle.demands.proofs.Admitting.{Admitted, Joins, JoinsC, NewComplex, NewOrder, admitted-none, complex-admitted, complex-new}
-use Rattle.demands.proofs.Admitting.{order-admitted, order-new, order-ready, withComplexOrder, withOrder}
+use Rattle.demands.proofs.Admitting.{order-admitted, order-new, order-ready, with_complex_order, with_order}
 use Rattle.demands.proofs.ComplexCarries.{Carries, carries-then, fine-after, settle-carries, work-carries}
 use Rattle.demands.proofs.Closed.{Ends, ends-closed, ends-here}
 use Rattle.demands.proofs.OrderCarries.{enter-carries}
@@ -114,28 +114,28 @@ end-settled e f k = record { carries = carries-then e settle k (settle-carries _
 
 -- Cancel --------------------------------------------------------------------------------------
 
-cancel-regular : (i : ℕ) (v : Venue) → Fine v → held (reg v i).quantity ≡ true → Carries v (cancelRegular i v)
-unfolding cancelRegular report fillRegular withRegular
-cancel-regular i v f h = record { moves = moves-cancelRegular i v (held_fits v.regular i h) h; homes = homes_same refl refl f.homes }
+cancel-regular : (i : ℕ) (v : Venue) → Fine v → held (reg v i).quantity ≡ true → Carries v (cancel_regular i v)
+unfolding cancel_regular report fill_regular with_regular
+cancel-regular i v f h = record { moves = moves-cancel_regular i v (held_fits v.regular i h) h; homes = homes_same refl refl f.homes }
 
-cancel-complex : (i : ℕ) (v : Venue) → Fine v → held (cx v i).quantity ≡ true → Carries v (cancelComplex i v)
-unfolding cancelComplex report ◌⟫◌ complexAt
-cancel-complex i v f h = record { moves = moves-cancelComplex i v (held-fitsC v.complex i h) h; homes = homes-fill i _ Withdrawn v f.homes }
+cancel-complex : (i : ℕ) (v : Venue) → Fine v → held (cx v i).quantity ≡ true → Carries v (cancel_complex i v)
+unfolding cancel_complex report ◌⟫◌ complex_at
+cancel-complex i v f h = record { moves = moves-cancel_complex i v (held-fits_c v.complex i h) h; homes = homes-fill i _ Withdrawn v f.homes }
 
-rests-holds : (v : Venue) (id : ℕ) → restsRegular v id ≡ true → held (reg v (regularPlace v id)).quantity ≡ true
-unfolding restsRegular isRegularOf regularAt
-rests-holds v id e = and_l _ (eqb (reg v (regularPlace v id)).id id) e
+rests-holds : (v : Venue) (id : ℕ) → rests_regular v id ≡ true → held (reg v (regular_place v id)).quantity ≡ true
+unfolding rests_regular is_regular_of regular_at
+rests-holds v id e = and_l _ (eqb (reg v (regular_place v id)).id id) e
 
-rests-holdsC : (v : Venue) (id : ℕ) → restsComplex v id ≡ true → held (cx v (complexPlace v id)).quantity ≡ true
-unfolding restsComplex isComplexOf complexAt
-rests-holdsC v id e = and_l _ (eqb (cx v (complexPlace v id)).id id) e
+rests-holds_c : (v : Venue) (id : ℕ) → rests_complex v id ≡ true → held (cx v (complex_place v id)).quantity ≡ true
+unfolding rests_complex is_complex_of complex_at
+rests-holds_c v id e = and_l _ (eqb (cx v (complex_place v id)).id id) e
 
-cancel-stood : (id : ℕ) (v : Venue) → Fine v → (restsRegular v id || restsComplex v id) ≡ true → Stood v (cancel id v)
+cancel-stood : (id : ℕ) (v : Venue) → Fine v → (rests_regular v id || rests_complex v id) ≡ true → Stood v (cancel id v)
 unfolding cancel
 cancel-stood id v f h =
-    end-settled _ f (if-by (Carries v) (restsRegular v id)
-    (λ e. cancel-regular (regularPlace v id) v f (rests-holds v id e))
-    (λ e. cancel-complex (complexPlace v id) v f (rests-holdsC v id (or_r (restsRegular v id) _ e h))))
+    end-settled _ f (if-by (Carries v) (rests_regular v id)
+    (λ e. cancel-regular (regular_place v id) v f (rests-holds v id e))
+    (λ e. cancel-complex (complex_place v id) v f (rests-holds_c v id (or_r (rests_regular v id) _ e h))))
 
 -- Orders --------------------------------------------------------------------------------------
 
@@ -149,35 +149,35 @@ kinds-apart : (o : Regular) (c : Complex) → Order o ≡ TwoLeg c → ⊥
 unfolding kind
 kinds-apart o c e = let z = ap kind e in omega arith
 
-free-is : (v : Venue) → freeRegular v < 128 → Fine v → held (reg v (freeRegular v)).quantity ≡ false
-unfolding freeRegular
-free-is v i f = not-true _ (where-passes noRegular (λ o. not (held o.quantity)) v.regular (rw f.good.len1 i))
+free-is : (v : Venue) → free_regular v < 128 → Fine v → held (reg v (free_regular v)).quantity ≡ false
+unfolding free_regular
+free-is v i f = not-true _ (where-passes no_regular (λ o. not (held o.quantity)) v.regular (rw f.good.len1 i))
 
-free-isC : (v : Venue) → freeComplex v < 32 → Fine v → held (cx v (freeComplex v)).quantity ≡ false
-unfolding freeComplex
-free-isC v i f = not-true _ (where-passes noComplex (λ o. not (held o.quantity)) v.complex (rw f.good.len2 i))
+free-is_c : (v : Venue) → free_complex v < 32 → Fine v → held (cx v (free_complex v)).quantity ≡ false
+unfolding free_complex
+free-is_c v i f = not-true _ (where-passes no_complex (λ o. not (held o.quantity)) v.complex (rw f.good.len2 i))
 
 -- an accepted order has a place, the first that is free
-pub order-joins : (v : Venue) → Fine v → Tidy v → (o : Regular) → Passed v (Order o) → Joins v o (freeRegular v)
+pub order-joins : (v : Venue) → Fine v → Tidy v → (o : Regular) → Passed v (Order o) → Joins v o (free_regular v)
 order-joins v f td o p =
-    let i = freeRegular v in
-    let there : i < 128 = unfold full in (leb-false 128 (freeRegular v) p.room) in
+    let i = free_regular v in
+    let there : i < 128 = unfold full in (leb-false 128 (free_regular v) p.room) in
     let free = free-is v there f in
-    record { fine = f; new = unfold idTooLow in (leb-false o.id v.last p.fresh-id); there = there; free = free; behind = after-regular td i free }
+    record { fine = f; new = unfold id_too_low in (leb-false o.id v.last p.fresh-id); there = there; free = free; behind = after-regular td i free }
 
 module _ (number : ℕ) (v : Venue) (f : Fine v) (z : Stepped v) (st : AllStand v) (td : Tidy v) where
   module _ (o : Regular) (p : Passed v (Order o)) where
     abbrev i : ℕ
-    i = freeRegular v
+    i = free_regular v
 
     abbrev w : Venue
-    w = withOrder v o i
+    w = with_order v o i
 
     admitted : Admitted v w
     admitted = order-admitted v o i (order-joins v f td o p)
 
     order-stood : Stood w (perform number (Order o) v)
-    unfolding perform order enterRegular putRegular freeRegular with_last
+    unfolding perform order enter_regular put_regular free_regular with_last
     order-stood = end-settled _ admitted.fine (enter-carries i o.series o.side o.quantity w admitted.fine (order-ready v o i (order-joins v f td o p) st))
 
     order-takes : Takes v (perform number (Order o) v).reports (perform number (Order o) v).venue (Order o ∷ [])
@@ -193,62 +193,62 @@ module _ (number : ℕ) (v : Venue) (f : Fine v) (z : Stepped v) (st : AllStand 
 
   module _ (c : Complex) (p : Passed v (TwoLeg c)) where
     abbrev j : ℕ
-    j = freeComplex v
+    j = free_complex v
 
-    joinsC : JoinsC v c j
-    joinsC =
-        let there : j < 32 = unfold full in (leb-false 32 (freeComplex v) p.room) in
-        let free = free-isC v there f in
+    joins_c : JoinsC v c j
+    joins_c =
+        let there : j < 32 = unfold full in (leb-false 32 (free_complex v) p.room) in
+        let free = free-is_c v there f in
         record {
           fine = f;
-          range = range-of c (unfold wellFormed in p.range);
-          new = unfold idTooLow in (leb-false c.id v.last p.fresh-id);
+          range = range-of c (unfold well_formed in p.range);
+          new = unfold id_too_low in (leb-false c.id v.last p.fresh-id);
           there = there;
           free = free;
           behind = after-complex td j free;
         }
 
     abbrev u : Venue
-    u = withComplexOrder v c j
+    u = with_complex_order v c j
 
-    admittedC : Admitted v u
-    admittedC = complex-admitted v c j joinsC
+    admitted_c : Admitted v u
+    admitted_c = complex-admitted v c j joins_c
 
     complex-stood : Stood u (perform number (TwoLeg c) v)
-    unfolding perform complex putComplex freeComplex with_last withComplex
+    unfolding perform complex put_complex free_complex with_last with_complex
     complex-stood =
-        let f₀ = admittedC.fine in
-        let k = end-settled (work j u) f₀ (work-carries j joinsC.there u f₀) in
-        stood-then _ _ k.carries (generate-stood number j joinsC.there _ (fine-after f₀ k.carries) (steps-settled (work j u) (steps-work j u (steps-same v u refl z))) k.stand)
+        let f₀ = admitted_c.fine in
+        let k = end-settled (work j u) f₀ (work-carries j joins_c.there u f₀) in
+        stood-then _ _ k.carries (generate-stood number j joins_c.there _ (fine-after f₀ k.carries) (steps-settled (work j u) (steps-work j u (steps-same v u refl z))) k.stand)
 
     complex-takes : Takes v (perform number (TwoLeg c) v).reports (perform number (TwoLeg c) v).venue (TwoLeg c ∷ [])
     complex-takes = record {
       start = u;
-      admitted = admittedC;
+      admitted = admitted_c;
       moved = complex-stood.carries.moves;
-      fine = fine-after admittedC.fine complex-stood.carries;
+      fine = fine-after admitted_c.fine complex-stood.carries;
       stand = complex-stood.stand;
       orders = λ o m. absurd (kinds-apart o c (Memᴰ.eq_of_singleton m));
-      complexes = λ c' m. subst (λ (x : Complex). NewComplex v u x) (sym (complex-injective (Memᴰ.eq_of_singleton m))) (complex-new v c j joinsC);
+      complexes = λ c' m. subst (λ (x : Complex). NewComplex v u x) (sym (complex-injective (Memᴰ.eq_of_singleton m))) (complex-new v c j joins_c);
     }
 
   -- Every message
   perform-takes : (m : Message) → Passed v m → Takes v (perform number m v).reports (perform number m v).venue (m ∷ [])
-  unfolding perform setAway setStatus setFigure enterEdition withSeries withEditions unknown kind
+  unfolding perform set_away set_status set_figure enter_edition with_series with_editions unknown kind
   perform-takes (Order o) p = order-takes o p
   perform-takes (TwoLeg c) p = complex-takes c p
   perform-takes (Cancel id) p = takes-stood (no-order (Cancel id) (omega arith)) f (cancel-stood id v f (not-false _ p.known))
-  perform-takes (Away s b o) p = takes-series v (setAway s b o v) (no-order (Away s b o) (omega arith)) refl refl refl refl f
-  perform-takes (Status s x) p = takes-series v (setStatus s x v) (no-order (Status s x) (omega arith)) refl refl refl refl f
+  perform-takes (Away s b o) p = takes-series v (set_away s b o v) (no-order (Away s b o) (omega arith)) refl refl refl refl f
+  perform-takes (Status s x) p = takes-series v (set_status s x v) (no-order (Status s x) (omega arith)) refl refl refl refl f
   perform-takes Sweep p = takes-stood (no-order Sweep (omega arith)) f (sweep-stood number v f z)
-  perform-takes (Increment s i e) p = takes-series v (setFigure number s i e v) (no-order (Increment s i e) (omega arith)) refl refl refl refl f
-  perform-takes (Percent x e) p = takes-series v (setFigure number percentage x e v) (no-order (Percent x e) (omega arith)) refl refl refl refl f
+  perform-takes (Increment s i e) p = takes-series v (set_figure number s i e v) (no-order (Increment s i e) (omega arith)) refl refl refl refl f
+  perform-takes (Percent x e) p = takes-series v (set_figure number percentage x e v) (no-order (Percent x e) (omega arith)) refl refl refl refl f
   perform-takes (LimitedSweep n) p = takes-stood (no-order (LimitedSweep n) (omega arith)) f (limited-stood number n v f z)
 
 -- A step --------------------------------------------------------------------------------------
 
 with-answer : {v w : Venue} {qs : List Report} {ns : List Message} (n x m k : ℕ) → Takes v qs w ns → Takes v (answer n x m k ∷ qs) w ns
-unfolding total contracts paired crossedFor cancelledOf
+unfolding total contracts paired crossed_for cancelled_of
 with-answer {v} {w} {qs} n x m k t =
     let a : Moved t.start (answer n x m k ∷ []) t.start =
     moved-silent refl refl refl (record { contracts0 = λ y s. refl; paired0 = λ y. refl; crossed0 = λ y. refl; cancelled0 = λ y. refl }) in
@@ -291,18 +291,18 @@ steps-answer : {v w : Venue} {qs : List Report} {t : Type 0} {m : Message} (n x 
 steps-answer n x k l s = record { left = s.left; new = s.new; takes = with-answer n x k l s.takes; ends = s.ends; brings = s.brings }
 
 pub step-takes : (v : Venue) → Fine v → Stepped v → AllStand v → Tidy v → (n : ℕ) (bs : List ℕ) →
-    Steps v (step v n bs).effect.reports (step v n bs).effect.venue ((step v n bs).refused ≡ 0) (messageOf bs)
+    Steps v (step v n bs).effect.reports (step v n bs).effect.venue ((step v n bs).refused ≡ 0) (message_of bs)
 unfolding step answered nothing
 step-takes v f z st td n bs =
-    steps-answer _ _ _ _ (step_by (λ e. Steps v e.reports e.venue (refusal v bs ≡ 0) (messageOf bs)) v n bs
-    (λ h. accept-takes n v f z st td (messageOf bs) (accepted v bs h))
+    steps-answer _ _ _ _ (step_by (λ e. Steps v e.reports e.venue (refusal v bs ≡ 0) (message_of bs)) v n bs
+    (λ h. accept-takes n v f z st td (message_of bs) (accepted v bs h))
     (λ h. record { left = v; new = []; takes = nothing-takes v f st; ends = ends-here f st td; brings = λ e. absurd (h e) }))
 
 step-uncrossed : (v : Venue) → Invariant v → (n : ℕ) (bs : List ℕ) → Uncrossed (step v n bs).effect.venue
 unfolding step answered
 step-uncrossed v k n bs =
     step_by (λ e. Uncrossed e.venue) v n bs
-    (λ h. unfold accept nothing ◌⟫◌ in (uncrossed-closed _ (uncrossed-perform n (messageOf bs) v (accepted v bs h).range (record { ranged = k.ranged; uncrossed = k.uncrossed }))))
+    (λ h. unfold accept nothing ◌⟫◌ in (uncrossed-closed _ (uncrossed-perform n (message_of bs) v (accepted v bs h).range (record { ranged = k.ranged; uncrossed = k.uncrossed }))))
     (λ _. unfold nothing in k.uncrossed)
 
 step-edited : (v : Venue) → Edited v → (n : ℕ) → n ≤ 4294967295 → follows n v ≡ true → (bs : List ℕ) → Edited (step v n bs).effect.venue

@@ -1,4 +1,4 @@
--- No message on a sound venue writes more than `mostReportBytes` bytes.
+-- No message on a sound venue writes more than `most_report_bytes` bytes.
 use mathlib.Core.Path.{◌∙◌, ap, refl}
 use Prim.Native.Nat.{suc, ℕ}
 use native.Mathlib.Omega.{arith}
@@ -8,7 +8,7 @@ use Rattle.rules.specs.Step.{step}
 use Rattle.rules.specs.Calls.{after, called, ends, one}
 use Rattle.demands.specs.Soundness.{SoundVenue}
 use Rattle.demands.specs.Most.{Lengths, Parts, RoomEnough, WritesAtMost}
-use Rattle.rules.proofs.CallsLaws.{not-exceeds, oneFrom-done}
+use Rattle.rules.proofs.CallsLaws.{not-exceeds, one_from-done}
 use Rattle.rules.proofs.Costs.{Apart}
 use Rattle.rules.proofs.Matching.{Housed}
 use Rattle.rules.proofs.Worth.{lengths, written}
@@ -45,4 +45,4 @@ pub room-enough : RoomEnough
 unfolding one called after ends
 room-enough v n s room bs few enough =
     let w = writes-at-most v s.venue (suc n) bs in
-    rw (oneFrom-done v n room bs s.venue.is s.next (not-exceeds (suc n) room (step v (suc n) bs).effect.reports (omega arith) (omega arith)))
+    rw (one_from-done v n room bs s.venue.is s.next (not-exceeds (suc n) room (step v (suc n) bs).effect.reports (omega arith) (omega arith)))

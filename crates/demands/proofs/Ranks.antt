@@ -10,13 +10,13 @@ use Rattle.rules.specs.declared.Venue.{Venue}
 use Rattle.rules.specs.declared.Verdict.{Verdict}
 use Rattle.rules.specs.declared.Verdict.TheVariants.{Fails, Stands}
 use Rattle.rules.specs.Base.{held, if◌then◌else◌}
-use Rattle.rules.specs.Words.{withLegging}
+use Rattle.rules.specs.Words.{with_legging}
 use Rattle.rules.specs.Records.{Report, removed}
-use Rattle.rules.specs.Prices.{inBand}
+use Rattle.rules.specs.Prices.{in_band}
 use Rattle.rules.specs.Removal.{goes, leavers, remove, stay, stayers}
-use Rattle.rules.specs.Standing.{bothOpen, pairs, parentOf, settle, showAgain, displayedNoWorse, stands, verdict, verdictOf}
+use Rattle.rules.specs.Standing.{both_open, pairs, parent_of, settle, show_again, displayed_no_worse, stands, verdict, verdict_of}
 use Rattle.rules.proofs.Verdicts.{ladder}
-use Rattle.demands.specs.Ranks.{Unaffected, formerSettle, formerVerdict, formerVerdictOf, leftBand, recaused, retold}
+use Rattle.demands.specs.Ranks.{Unaffected, former_settle, former_verdict, former_verdict_of, left_band, recaused, retold}
 
 -- One place -----------------------------------------------------------------------------------
 
@@ -27,7 +27,7 @@ module _ (v : Venue) where
   revised id (Fails c) = Fails (recaused v id c)
 
   -- by the four tests: price shown, band, pairing, open
-  ranks : (id : ℕ) (a b p o : Bool) → leftBand v id ≡ not b →
+  ranks : (id : ℕ) (a b p o : Bool) → left_band v id ≡ not b →
       ladder a b p o
       ≡ revised id (if not a then Fails Worse else if not p then Fails Unpaired else if not b then Fails OutOfBand else if not o then Fails NotOpen else Stands)
   unfolding recaused
@@ -38,15 +38,15 @@ module _ (v : Venue) where
   ranks id true false true o e = refl
   ranks id true false false o e = rw e
 
-  verdict-revised : (n : ℕ) (l : Legging) → verdict v n l ≡ revised l.parent (formerVerdict v n l)
-  unfolding verdict verdictOf formerVerdict formerVerdictOf leftBand parentOf
-  verdict-revised n l = go (held l.quantity) (parentOf v l) refl
+  verdict-revised : (n : ℕ) (l : Legging) → verdict v n l ≡ revised l.parent (former_verdict v n l)
+  unfolding verdict verdict_of former_verdict former_verdict_of left_band parent_of
+  verdict-revised n l = go (held l.quantity) (parent_of v l) refl
     where
-      go : (h : Bool) (c : Complex) → leftBand v l.parent ≡ not (inBand v c c.limit) →
-          (if h then verdictOf v c (n / 2) (n % 2) l else Stands)
-          ≡ revised l.parent (if h then formerVerdictOf v c (n / 2) (n % 2) l else Stands)
+      go : (h : Bool) (c : Complex) → left_band v l.parent ≡ not (in_band v c c.limit) →
+          (if h then verdict_of v c (n / 2) (n % 2) l else Stands)
+          ≡ revised l.parent (if h then former_verdict_of v c (n / 2) (n % 2) l else Stands)
       go true c e =
-          ranks l.parent (displayedNoWorse v (n / 2) (n % 2) l.price) (inBand v c c.limit) (pairs v c (n / 2) (n % 2) l.price l.quantity) (bothOpen v c) e
+          ranks l.parent (displayed_no_worse v (n / 2) (n % 2) l.price) (in_band v c c.limit) (pairs v c (n / 2) (n % 2) l.price l.quantity) (both_open v c) e
       go false c e = refl
 
   revised-stands : (id : ℕ) (x : Verdict) → stands (revised id x) ≡ stands x
@@ -76,23 +76,23 @@ module _ (v : Venue) where
   map-append [] b = refl
   map-append (r ∷ rs) b = ap (λ (l : List Report). retold v r ∷ l) (map-append rs b)
 
-  same-stayers : (n : ℕ) (ls : List Legging) → stayers (verdict v) n ls ≡ stayers (formerVerdict v) n ls
+  same-stayers : (n : ℕ) (ls : List Legging) → stayers (verdict v) n ls ≡ stayers (former_verdict v) n ls
   unfolding stayers
   same-stayers n [] = refl
   same-stayers n (l ∷ ls) = rw (verdict-revised n l, revised-stay, same-stayers (suc n) ls)
 
-  same-leavers : (n : ℕ) (ls : List Legging) → leavers (verdict v) n ls ≡ map (retold v) (leavers (formerVerdict v) n ls)
+  same-leavers : (n : ℕ) (ls : List Legging) → leavers (verdict v) n ls ≡ map (retold v) (leavers (former_verdict v) n ls)
   unfolding leavers
   same-leavers n [] = refl
   same-leavers n (l ∷ ls) = rw (verdict-revised n l, revised-goes, map-append, same-leavers (suc n) ls)
 
-same-venue : (v : Venue) → (settle v).venue ≡ (formerSettle v).venue
-unfolding settle formerSettle remove
-same-venue v = let w = showAgain v in ap (withLegging w) (same-stayers w 0 w.legging)
+same-venue : (v : Venue) → (settle v).venue ≡ (former_settle v).venue
+unfolding settle former_settle remove
+same-venue v = let w = show_again v in ap (with_legging w) (same-stayers w 0 w.legging)
 
-same-reports : (v : Venue) → (settle v).reports ≡ map (retold (showAgain v)) (formerSettle v).reports
-unfolding settle formerSettle remove
-same-reports v = let w = showAgain v in same-leavers w 0 w.legging
+same-reports : (v : Venue) → (settle v).reports ≡ map (retold (show_again v)) (former_settle v).reports
+unfolding settle former_settle remove
+same-reports v = let w = show_again v in same-leavers w 0 w.legging
 
 pub unaffected : Unaffected
 unaffected = record {

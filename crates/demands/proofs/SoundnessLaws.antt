@@ -15,14 +15,14 @@ use Rattle.rules.specs.declared.Regular.{Regular}
 use Rattle.rules.specs.declared.Venue.{Venue}
 use Rattle.rules.specs.declared.Verdict.TheVariants.{Stands}
 use Rattle.rules.specs.Base.{all, held, if◌then◌else◌}
-use Rattle.rules.specs.Words.{isAway, isId, isPrice, isQuantity, isStatus, noComplex, noEdition, noLegging, noRegular, notListed, oneToOne, within}
-use Rattle.rules.specs.Standing.{findComplex, hasLeg, parentOf, stands, verdict}
-use Rattle.rules.specs.Complex.{restsComplex}
-use Rattle.rules.specs.Places.{blankComplex, blankEdition, blankLegging, blankRegular, holdsComplex, holdsEdition, holdsRegular}
-use Rattle.rules.specs.Refusals.{complexInRange, onIncrement, regularInRange, twoLegInRange}
-use Rattle.rules.specs.Sound.{apart, complexesSound, editionInRange, editionsSound, generationsSound, idsDistinct, leggingSound, leggingsSound, listedInRange, regularsSound, showsFully, sound}
+use Rattle.rules.specs.Words.{is_away, is_id, is_price, is_quantity, is_status, no_complex, no_edition, no_legging, no_regular, not_listed, one_to_one, within}
+use Rattle.rules.specs.Standing.{find_complex, has_leg, parent_of, stands, verdict}
+use Rattle.rules.specs.Complex.{rests_complex}
+use Rattle.rules.specs.Places.{blank_complex, blank_edition, blank_legging, blank_regular, holds_complex, holds_edition, holds_regular}
+use Rattle.rules.specs.Refusals.{complex_in_range, on_increment, regular_in_range, two_leg_in_range}
+use Rattle.rules.specs.Sound.{apart, complexes_sound, edition_in_range, editions_sound, generations_sound, ids_distinct, legging_sound, leggings_sound, listed_in_range, regulars_sound, shows_fully, sound}
 use Rattle.demands.specs.Soundness.{Shaped, SoundVenue}
-use Rattle.rules.proofs.Arranging.{Arranged, all-at, all_in, arranged-in, arranged-out, blank-free, blank-freeC, blank-is}
+use Rattle.rules.proofs.Arranging.{Arranged, all-at, all_in, arranged-in, arranged-out, blank-free, blank-free_c, blank-is}
 use Rattle.rules.proofs.Dating.{edition-free}
 use Rattle.rules.proofs.Editions.{Dated}
 use Rattle.rules.proofs.Filling.{cx, lg, reg}
@@ -38,44 +38,44 @@ use Rattle.demands.proofs.Uncrossed.{apart_in, apart_out}
 
 -- Blank places --------------------------------------------------------------------------------
 
-blank-fits : (o : Regular) → blankRegular o ≡ true → RegFits o
+blank-fits : (o : Regular) → blank_regular o ≡ true → RegFits o
 blank-fits o z = record {
-  id = (let x = eqb-true o.id 0 (unfold blankRegular in (search (and_l, and_r, z) depth 8)) in omega arith);
-  series = (let x = eqb-true o.series 0 (unfold blankRegular in (search (and_l, and_r, z) depth 8)) in omega arith);
-  side = (let x = eqb-true o.side 0 (unfold blankRegular in (search (and_l, and_r, z) depth 8)) in omega arith);
-  price = (let x = eqb-true o.price 0 (unfold blankRegular in (search (and_l, and_r, z) depth 8)) in omega arith);
-  quantity = (let x = eqb-true o.quantity 0 (unfold blankRegular in (search (and_l, and_r, z) depth 8)) in omega arith);
+  id = (let x = eqb-true o.id 0 (unfold blank_regular in (search (and_l, and_r, z) depth 8)) in omega arith);
+  series = (let x = eqb-true o.series 0 (unfold blank_regular in (search (and_l, and_r, z) depth 8)) in omega arith);
+  side = (let x = eqb-true o.side 0 (unfold blank_regular in (search (and_l, and_r, z) depth 8)) in omega arith);
+  price = (let x = eqb-true o.price 0 (unfold blank_regular in (search (and_l, and_r, z) depth 8)) in omega arith);
+  quantity = (let x = eqb-true o.quantity 0 (unfold blank_regular in (search (and_l, and_r, z) depth 8)) in omega arith);
   ok = λ h. absurd (true≢false (sym h ∙ blank-free o z));
 }
 
-blank-fully : (o : Regular) → blankRegular o ≡ true → showsFully o ≡ true
-unfolding showsFully
+blank-fully : (o : Regular) → blank_regular o ≡ true → shows_fully o ≡ true
+unfolding shows_fully
 blank-fully o z = rw (blank-is o z)
 
-blank-fitsC : (c : Complex) → blankComplex c ≡ true → CxFits c
-blank-fitsC c z =
-    let n = eqb-true (nat_abs c.limit) 0 (unfold blankComplex in (search (and_l, and_r, z) depth 12)) in
+blank-fits_c : (c : Complex) → blank_complex c ≡ true → CxFits c
+blank-fits_c c z =
+    let n = eqb-true (nat_abs c.limit) 0 (unfold blank_complex in (search (and_l, and_r, z) depth 12)) in
     let a = abs_is c.limit in
     record {
-      id = (let x = eqb-true c.id 0 (unfold blankComplex in (search (and_l, and_r, z) depth 12)) in omega arith);
-      series1 = (let x = eqb-true c.series1 0 (unfold blankComplex in (search (and_l, and_r, z) depth 12)) in omega arith);
-      side1 = (let x = eqb-true c.side1 0 (unfold blankComplex in (search (and_l, and_r, z) depth 12)) in omega arith);
-      series2 = (let x = eqb-true c.series2 0 (unfold blankComplex in (search (and_l, and_r, z) depth 12)) in omega arith);
-      side2 = (let x = eqb-true c.side2 0 (unfold blankComplex in (search (and_l, and_r, z) depth 12)) in omega arith);
+      id = (let x = eqb-true c.id 0 (unfold blank_complex in (search (and_l, and_r, z) depth 12)) in omega arith);
+      series1 = (let x = eqb-true c.series1 0 (unfold blank_complex in (search (and_l, and_r, z) depth 12)) in omega arith);
+      side1 = (let x = eqb-true c.side1 0 (unfold blank_complex in (search (and_l, and_r, z) depth 12)) in omega arith);
+      series2 = (let x = eqb-true c.series2 0 (unfold blank_complex in (search (and_l, and_r, z) depth 12)) in omega arith);
+      side2 = (let x = eqb-true c.side2 0 (unfold blank_complex in (search (and_l, and_r, z) depth 12)) in omega arith);
       high = omega arith;
       low = omega arith;
-      quantity = (let x = eqb-true c.quantity 0 (unfold blankComplex in (search (and_l, and_r, z) depth 12)) in omega arith);
-      ratio1 = (let x = eqb-true c.ratio1 0 (unfold blankComplex in (search (and_l, and_r, z) depth 12)) in omega arith);
-      ratio2 = (let x = eqb-true c.ratio2 0 (unfold blankComplex in (search (and_l, and_r, z) depth 12)) in omega arith);
-      ok = λ h. absurd (true≢false (sym h ∙ blank-freeC c z));
+      quantity = (let x = eqb-true c.quantity 0 (unfold blank_complex in (search (and_l, and_r, z) depth 12)) in omega arith);
+      ratio1 = (let x = eqb-true c.ratio1 0 (unfold blank_complex in (search (and_l, and_r, z) depth 12)) in omega arith);
+      ratio2 = (let x = eqb-true c.ratio2 0 (unfold blank_complex in (search (and_l, and_r, z) depth 12)) in omega arith);
+      ok = λ h. absurd (true≢false (sym h ∙ blank-free_c c z));
     }
 
-blank-fitsL : (l : Legging) → blankLegging l ≡ true → LgFits l
-blank-fitsL l z =
-    let q : eqb l.quantity 0 ≡ true = unfold blankLegging in (search (and_l, and_r, z)) in
+blank-fits_l : (l : Legging) → blank_legging l ≡ true → LgFits l
+blank-fits_l l z =
+    let q : eqb l.quantity 0 ≡ true = unfold blank_legging in (search (and_l, and_r, z)) in
     record {
-      parent = (let x = eqb-true l.parent 0 (unfold blankLegging in (search (and_l, and_r, z))) in omega arith);
-      price = (let x = eqb-true l.price 0 (unfold blankLegging in (search (and_l, and_r, z))) in omega arith);
+      parent = (let x = eqb-true l.parent 0 (unfold blank_legging in (search (and_l, and_r, z))) in omega arith);
+      price = (let x = eqb-true l.price 0 (unfold blank_legging in (search (and_l, and_r, z))) in omega arith);
       quantity = (let x = eqb-true l.quantity 0 q in omega arith);
       ok = λ h. absurd (false≢true (rw q at h));
       zero = λ _. z;
@@ -85,76 +85,76 @@ blank-fitsL l z =
 
 -- the tests, by name
 record Asked (v : Venue) : Type 0 where
-  regulars : regularsSound v ≡ true
-  complexes : complexesSound v ≡ true
-  listed : all listedInRange v.series ≡ true
-  editions : editionsSound v ≡ true
-  generations : generationsSound v ≡ true
+  regulars : regulars_sound v ≡ true
+  complexes : complexes_sound v ≡ true
+  listed : all listed_in_range v.series ≡ true
+  editions : editions_sound v ≡ true
+  generations : generations_sound v ≡ true
   reached : leb v.reached v.last ≡ true
   last : leb v.last 4294967295 ≡ true
-  ids : idsDistinct v ≡ true
+  ids : ids_distinct v ≡ true
   apart : all (apart v) (0 ∷ 1 ∷ 2 ∷ 3 ∷ 4 ∷ 5 ∷ 6 ∷ 7 ∷ []) ≡ true
-  leggings : leggingsSound v 0 v.legging ≡ true
+  leggings : leggings_sound v 0 v.legging ≡ true
 
 asked : (v : Venue) → sound v ≡ true → Asked v
 unfolding sound
 asked v z = search (and_l, and_r, z) depth 12
 
-blank_none : blankRegular noRegular ≡ true
-unfolding blankRegular
+blank_none : blank_regular no_regular ≡ true
+unfolding blank_regular
 blank_none = refl
 
-blank-noneC : blankComplex noComplex ≡ true
-unfolding blankComplex
-blank-noneC = refl
+blank-none_c : blank_complex no_complex ≡ true
+unfolding blank_complex
+blank-none_c = refl
 
-listed-none : listedInRange notListed ≡ true
-unfolding listedInRange isStatus isAway within
+listed-none : listed_in_range not_listed ≡ true
+unfolding listed_in_range is_status is_away within
 listed-none = refl
 
 -- each edition kept sets a figure in range
-dated-out : (v : Venue) → editionsSound v ≡ true → Dated v
-unfolding editionsSound editionInRange
+dated-out : (v : Venue) → editions_sound v ≡ true → Dated v
+unfolding editions_sound edition_in_range
 dated-out v h i t =
-    let a = arranged-out noEdition holdsEdition editionInRange blankEdition (λ e. e.edition) edition-free (unfold blankEdition in refl) 0 v.editions (and_l _ _ h) in
+    let a = arranged-out no_edition holds_edition edition_in_range blank_edition (λ e. e.edition) edition-free (unfold blank_edition in refl) 0 v.editions (and_l _ _ h) in
     and_l _ _ (and_l _ _ (a.asks i t))
 
 -- a complex order in range
-pub range-of : (c : Complex) → complexInRange c ≡ true → InRange c
-unfolding complexInRange twoLegInRange
+pub range-of : (c : Complex) → complex_in_range c ≡ true → InRange c
+unfolding complex_in_range two_leg_in_range
 range-of c z =
     let f = complex-fits c z in
     let g : not (eqb c.series1 c.series2) ≡ true = search (and_l, and_r, z) depth 14 in
     record { side1 = f.side1; side2 = f.side2; series1 = f.series1; series2 = f.series2; apart = eqb-false c.series1 c.series2 (not-true _ g) }
 
 -- of the legging order at a place
-leggings-at : (v : Venue) (n : ℕ) (ls : List Legging) → leggingsSound v n ls ≡ true → (i : ℕ) → leggingSound v (n + i) (get_or ls i noLegging) ≡ true
-unfolding leggingsSound
-leggings-at v n [] h i = unfold leggingSound blankLegging in refl
-leggings-at v n (l ∷ ls) h zero = rw add-zero (and_l (leggingSound v n l) (leggingsSound v (suc n) ls) h)
-leggings-at v n (l ∷ ls) h (suc i) = rw (add-suc, ← suc-add) (leggings-at v (suc n) ls (and_r (leggingSound v n l) (leggingsSound v (suc n) ls) h) i)
+leggings-at : (v : Venue) (n : ℕ) (ls : List Legging) → leggings_sound v n ls ≡ true → (i : ℕ) → legging_sound v (n + i) (get_or ls i no_legging) ≡ true
+unfolding leggings_sound
+leggings-at v n [] h i = unfold legging_sound blank_legging in refl
+leggings-at v n (l ∷ ls) h zero = rw add-zero (and_l (legging_sound v n l) (leggings_sound v (suc n) ls) h)
+leggings-at v n (l ∷ ls) h (suc i) = rw (add-suc, ← suc-add) (leggings-at v (suc n) ls (and_r (legging_sound v n l) (leggings_sound v (suc n) ls) h) i)
 
-leggings-in : (v : Venue) (n : ℕ) (ls : List Legging) → ((i : ℕ) → leggingSound v (n + i) (get_or ls i noLegging) ≡ true) → leggingsSound v n ls ≡ true
-unfolding leggingsSound
+leggings-in : (v : Venue) (n : ℕ) (ls : List Legging) → ((i : ℕ) → legging_sound v (n + i) (get_or ls i no_legging) ≡ true) → leggings_sound v n ls ≡ true
+unfolding leggings_sound
 leggings-in v n [] h = refl
 leggings-in v n (l ∷ ls) h =
-    and_in (leggingSound v n l) (leggingsSound v (suc n) ls) (rw add-zero at (h 0)) (leggings-in v (suc n) ls (λ i. rw (suc-add, ← add-suc) (h (suc i))))
+    and_in (legging_sound v n l) (leggings_sound v (suc n) ls) (rw add-zero at (h 0)) (leggings-in v (suc n) ls (λ i. rw (suc-add, ← add-suc) (h (suc i))))
 
 record LeggingIs (v : Venue) (n : ℕ) (l : Legging) : Type 0 where
-  ok : (isId l.parent && isPrice l.price && isQuantity l.quantity) ≡ true
-  leg : hasLeg (parentOf v l) (n / 2) (n % 2) ≡ true
-  even : oneToOne (parentOf v l) ≡ true
-  enough : leb l.quantity (parentOf v l).quantity ≡ true
+  ok : (is_id l.parent && is_price l.price && is_quantity l.quantity) ≡ true
+  leg : has_leg (parent_of v l) (n / 2) (n % 2) ≡ true
+  even : one_to_one (parent_of v l) ≡ true
+  enough : leb l.quantity (parent_of v l).quantity ≡ true
   passes : stands (verdict v n l) ≡ true
 
-legging-out : (v : Venue) (n : ℕ) (l : Legging) → leggingSound v n l ≡ true → held l.quantity ≡ true → LeggingIs v n l
-unfolding leggingSound
+legging-out : (v : Venue) (n : ℕ) (l : Legging) → legging_sound v n l ≡ true → held l.quantity ≡ true → LeggingIs v n l
+unfolding legging_sound
 legging-out v n l h t =
-    let z : (isId l.parent && isPrice l.price && isQuantity l.quantity && hasLeg (parentOf v l) (n / 2) (n % 2)
-    && oneToOne (parentOf v l) && leb l.quantity (parentOf v l).quantity && stands (verdict v n l)) ≡ true = rw t at h in
-    let a : isId l.parent ≡ true = search (and_l, and_r, z) depth 8 in
-    let b : isPrice l.price ≡ true = search (and_l, and_r, z) depth 8 in
-    let c : isQuantity l.quantity ≡ true = search (and_l, and_r, z) depth 8 in
+    let z : (is_id l.parent && is_price l.price && is_quantity l.quantity && has_leg (parent_of v l) (n / 2) (n % 2)
+    && one_to_one (parent_of v l) && leb l.quantity (parent_of v l).quantity && stands (verdict v n l)) ≡ true = rw t at h in
+    let a : is_id l.parent ≡ true = search (and_l, and_r, z) depth 8 in
+    let b : is_price l.price ≡ true = search (and_l, and_r, z) depth 8 in
+    let c : is_quantity l.quantity ≡ true = search (and_l, and_r, z) depth 8 in
     record {
       ok = rw (a, b, c);
       leg = search (and_l, and_r, z) depth 8;
@@ -163,12 +163,12 @@ legging-out v n l h t =
       passes = search (and_l, and_r, z) depth 8;
     }
 
-legging-blank : (v : Venue) (n : ℕ) (l : Legging) → leggingSound v n l ≡ true → held l.quantity ≡ false → blankLegging l ≡ true
-unfolding leggingSound
+legging-blank : (v : Venue) (n : ℕ) (l : Legging) → legging_sound v n l ≡ true → held l.quantity ≡ false → blank_legging l ≡ true
+unfolding legging_sound
 legging-blank v n l h t = rw t at h
 
-legging-fits : (l : Legging) → (isId l.parent && isPrice l.price && isQuantity l.quantity) ≡ true → held l.quantity ≡ true → LgFits l
-unfolding isId isPrice isQuantity within
+legging-fits : (l : Legging) → (is_id l.parent && is_price l.price && is_quantity l.quantity) ≡ true → held l.quantity ≡ true → LgFits l
+unfolding is_id is_price is_quantity within
 legging-fits l z h = record {
   parent = (let x = leb-true l.parent 4294967295 (search (and_l, and_r, z) depth 8) in omega arith);
   price = leb-true l.price 100000 (search (and_l, and_r, z) depth 8);
@@ -178,27 +178,27 @@ legging-fits l z h = record {
 }
 
 module _ (v : Venue) (sh : Shaped v) (t : Asked v) where
-  abbrev askR : Regular → Bool
-  askR o = regularInRange o && onIncrement v o && showsFully o && leb o.id v.last
+  abbrev ask_r : Regular → Bool
+  ask_r o = regular_in_range o && on_increment v o && shows_fully o && leb o.id v.last
 
-  abbrev askC : Complex → Bool
-  askC c = complexInRange c && leb c.id v.last
+  abbrev ask_c : Complex → Bool
+  ask_c c = complex_in_range c && leb c.id v.last
 
-  R : Arranged noRegular holdsRegular askR blankRegular (λ o. o.id) 0 v.regular
-  unfolding regularsSound
-  R = arranged-out noRegular holdsRegular askR blankRegular (λ o. o.id) blank-free blank_none 0 v.regular t.regulars
+  R : Arranged no_regular holds_regular ask_r blank_regular (λ o. o.id) 0 v.regular
+  unfolding regulars_sound
+  R = arranged-out no_regular holds_regular ask_r blank_regular (λ o. o.id) blank-free blank_none 0 v.regular t.regulars
 
-  C : Arranged noComplex holdsComplex askC blankComplex (λ c. c.id) 0 v.complex
-  unfolding complexesSound
-  C = arranged-out noComplex holdsComplex askC blankComplex (λ c. c.id) blank-freeC blank-noneC 0 v.complex t.complexes
+  C : Arranged no_complex holds_complex ask_c blank_complex (λ c. c.id) 0 v.complex
+  unfolding complexes_sound
+  C = arranged-out no_complex holds_complex ask_c blank_complex (λ c. c.id) blank-free_c blank-none_c 0 v.complex t.complexes
 
-  okR : (i : ℕ) → held (reg v i).quantity ≡ true → regularInRange (reg v i) ≡ true
-  okR i h = and_l _ (onIncrement v (reg v i)) (and_l _ (showsFully (reg v i)) (and_l _ (leb (reg v i).id v.last) (R.asks i h)))
+  ok_r : (i : ℕ) → held (reg v i).quantity ≡ true → regular_in_range (reg v i) ≡ true
+  ok_r i h = and_l _ (on_increment v (reg v i)) (and_l _ (shows_fully (reg v i)) (and_l _ (leb (reg v i).id v.last) (R.asks i h)))
 
-  ok_c : (j : ℕ) → held (cx v j).quantity ≡ true → complexInRange (cx v j) ≡ true
+  ok_c : (j : ℕ) → held (cx v j).quantity ≡ true → complex_in_range (cx v j) ≡ true
   ok_c j h = and_l _ (leb (cx v j).id v.last) (C.asks j h)
 
-  L : (n : ℕ) → leggingSound v n (lg v n) ≡ true
+  L : (n : ℕ) → legging_sound v n (lg v n) ≡ true
   L n = rw zero-add at (leggings-at v 0 v.legging t.leggings n)
 
   ranged-out : Ranged v
@@ -206,7 +206,7 @@ module _ (v : Venue) (sh : Shaped v) (t : Asked v) where
     regular = λ i. reg-fits i (held (reg v i).quantity) refl;
     complex = λ i. cx-fits i (held (cx v i).quantity) refl;
     legging = λ i. lg-fits i (held (lg v i).quantity) refl;
-    listed = all-at listedInRange notListed v.series listed-none t.listed;
+    listed = all-at listed_in_range not_listed v.series listed-none t.listed;
     last = leb-true v.last 4294967295 t.last;
     len = sh.legging;
     eight = sh.series;
@@ -214,45 +214,45 @@ module _ (v : Venue) (sh : Shaped v) (t : Asked v) where
   }
     where
       reg-fits : (i : ℕ) (b : Bool) → held (reg v i).quantity ≡ b → RegFits (reg v i)
-      reg-fits i true h = order-fits (reg v i) (okR i h)
+      reg-fits i true h = order-fits (reg v i) (ok_r i h)
       reg-fits i false h = blank-fits (reg v i) (R.blanks i h)
 
       cx-fits : (i : ℕ) (b : Bool) → held (cx v i).quantity ≡ b → CxFits (cx v i)
       cx-fits i true h = complex-fits (cx v i) (ok_c i h)
-      cx-fits i false h = blank-fitsC (cx v i) (C.blanks i h)
+      cx-fits i false h = blank-fits_c (cx v i) (C.blanks i h)
 
       lg-fits : (i : ℕ) (b : Bool) → held (lg v i).quantity ≡ b → LgFits (lg v i)
       lg-fits i true h = legging-fits (lg v i) (legging-out v i (lg v i) (L i) h).ok h
-      lg-fits i false h = blank-fitsL (lg v i) (legging-blank v i (lg v i) (L i) h)
+      lg-fits i false h = blank-fits_l (lg v i) (legging-blank v i (lg v i) (L i) h)
 
   showing-out : Showing v
   unfolding Showing
   showing-out i = go (held (reg v i).quantity) refl
     where
-      go : (b : Bool) → held (reg v i).quantity ≡ b → showsFully (reg v i) ≡ true
-      go true h = and_r (regularInRange (reg v i) && onIncrement v (reg v i)) (showsFully (reg v i)) (and_l _ (leb (reg v i).id v.last) (R.asks i h))
+      go : (b : Bool) → held (reg v i).quantity ≡ b → shows_fully (reg v i) ≡ true
+      go true h = and_r (regular_in_range (reg v i) && on_increment v (reg v i)) (shows_fully (reg v i)) (and_l _ (leb (reg v i).id v.last) (R.asks i h))
       go false h = blank-fully (reg v i) (R.blanks i h)
 
   -- no id rests in both books
   apart-ids : (i j : ℕ) → held (reg v i).quantity ≡ true → held (cx v j).quantity ≡ true → (reg v i).id ≡ (cx v j).id → ⊥
-  unfolding idsDistinct
+  unfolding ids_distinct
   apart-ids i j h k e =
-      let z = all-at (λ o. not (held o.quantity) || not (restsComplex v o.id)) noRegular v.regular refl t.ids i in
+      let z = all-at (λ o. not (held o.quantity) || not (rests_complex v o.id)) no_regular v.regular refl t.ids i in
       let y = rests-in v j k in
       false≢true (rw (h, e, y) at z)
 
   home_out : (n : ℕ) → held (lg v n).quantity ≡ true → Home v n (lg v n)
   home_out n h =
       let x = legging-out v n (lg v n) (L n) h in
-      let q = leb-true (lg v n).quantity (parentOf v (lg v n)).quantity x.enough in
+      let q = leb-true (lg v n).quantity (parent_of v (lg v n)).quantity x.enough in
       let p = held-pos (lg v n).quantity h in
-      let f = find_at (lg v n).parent v.complex (pos-held (findComplex (lg v n).parent v.complex).quantity (unfold parentOf in (omega arith))) in
-      let e : cx v f.at ≡ parentOf v (lg v n) = unfold parentOf in f.there in
+      let f = find_at (lg v n).parent v.complex (pos-held (find_complex (lg v n).parent v.complex).quantity (unfold parent_of in (omega arith))) in
+      let e : cx v f.at ≡ parent_of v (lg v n) = unfold parent_of in f.there in
       record {
         at = f.at;
         fits = f.fits;
         id = ap (λ (c : Complex). c.id) f.there ∙ f.is;
-        leg = subst (λ (c : Complex). LegOf c (n / 2) (n % 2)) (sym e) (leg-out (parentOf v (lg v n)) (n / 2) (n % 2) x.leg);
+        leg = subst (λ (c : Complex). LegOf c (n / 2) (n % 2)) (sym e) (leg-out (parent_of v (lg v n)) (n / 2) (n % 2) x.leg);
         even = rw e x.even;
         enough = rw e q;
       }
@@ -290,8 +290,8 @@ module _ (v : Venue) (sh : Shaped v) (t : Asked v) where
         rise1 = R.rises;
         rise2 = C.rises;
         rx = apart-ids;
-        rlast = λ i h. leb-true (reg v i).id v.last (and_r (regularInRange (reg v i) && onIncrement v (reg v i) && showsFully (reg v i)) _ (R.asks i h));
-        xlast = λ j h. leb-true (cx v j).id v.last (and_r (complexInRange (cx v j)) _ (C.asks j h));
+        rlast = λ i h. leb-true (reg v i).id v.last (and_r (regular_in_range (reg v i) && on_increment v (reg v i) && shows_fully (reg v i)) _ (R.asks i h));
+        xlast = λ j h. leb-true (cx v j).id v.last (and_r (complex_in_range (cx v j)) _ (C.asks j h));
       };
       homes = record { len = sh.legging; home = home_out };
     };
@@ -303,7 +303,7 @@ module _ (v : Venue) (sh : Shaped v) (t : Asked v) where
     edited = record { len = sh.editions; rise = t.editions };
     busy = record { eight = sh.generations; twenty = sh.twenty; rise = t.generations };
     reached = leb-true v.reached v.last t.reached;
-    priced = λ i h. and_r (regularInRange (reg v i)) _ (and_l _ (showsFully (reg v i)) (and_l _ (leb (reg v i).id v.last) (R.asks i h)));
+    priced = λ i h. and_r (regular_in_range (reg v i)) _ (and_l _ (shows_fully (reg v i)) (and_l _ (leb (reg v i).id v.last) (R.asks i h)));
   }
 
 pub sound-out : (v : Venue) → SoundVenue v → Invariant v
@@ -311,46 +311,46 @@ sound-out v s = invariant-out v s.shaped (asked v s.is)
 
 -- To the tests --------------------------------------------------------------------------------
 
-some_id : (o : Regular) → regularInRange o ≡ true → 0 < o.id
-unfolding regularInRange isId within
+some_id : (o : Regular) → regular_in_range o ≡ true → 0 < o.id
+unfolding regular_in_range is_id within
 some_id o z = leb-true 1 o.id (search (and_l, and_r, z) depth 12)
 
-some-idC : (c : Complex) → complexInRange c ≡ true → 0 < c.id
-unfolding complexInRange twoLegInRange isId within
-some-idC c z = leb-true 1 c.id (search (and_l, and_r, z) depth 14)
+some-id_c : (c : Complex) → complex_in_range c ≡ true → 0 < c.id
+unfolding complex_in_range two_leg_in_range is_id within
+some-id_c c z = leb-true 1 c.id (search (and_l, and_r, z) depth 14)
 
 module _ (v : Venue) (k : Invariant v) where
-  fully : (i : ℕ) → showsFully (reg v i) ≡ true
+  fully : (i : ℕ) → shows_fully (reg v i) ≡ true
   unfolding Showing
   fully = k.showing
 
-  regulars-in : regularsSound v ≡ true
-  unfolding regularsSound
-  regulars-in = arranged-in noRegular holdsRegular _ blankRegular (λ o. o.id) blank-free blank_none 0 v.regular (record {
+  regulars-in : regulars_sound v ≡ true
+  unfolding regulars_sound
+  regulars-in = arranged-in no_regular holds_regular _ blank_regular (λ o. o.id) blank-free blank_none 0 v.regular (record {
     above = λ i h. some_id (reg v i) ((k.ranged.regular i).ok h);
-    asks = λ i h. and_in (regularInRange (reg v i) && onIncrement v (reg v i) && showsFully (reg v i)) _
-        (and_in (regularInRange (reg v i) && onIncrement v (reg v i)) (showsFully (reg v i)) (and_in _ _ ((k.ranged.regular i).ok h) (k.priced i h))
+    asks = λ i h. and_in (regular_in_range (reg v i) && on_increment v (reg v i) && shows_fully (reg v i)) _
+        (and_in (regular_in_range (reg v i) && on_increment v (reg v i)) (shows_fully (reg v i)) (and_in _ _ ((k.ranged.regular i).ok h) (k.priced i h))
         (fully i)) (le-leb (reg v i).id v.last (k.fine.good.rlast i h));
     rises = k.fine.good.rise1;
     dense = k.tidy.dense1;
     blanks = k.tidy.blank1;
   })
 
-  complexes-in : complexesSound v ≡ true
-  unfolding complexesSound
-  complexes-in = arranged-in noComplex holdsComplex _ blankComplex (λ c. c.id) blank-freeC blank-noneC 0 v.complex (record {
-    above = λ i h. some-idC (cx v i) ((k.ranged.complex i).ok h);
-    asks = λ i h. and_in (complexInRange (cx v i)) _ ((k.ranged.complex i).ok h) (le-leb (cx v i).id v.last (k.fine.good.xlast i h));
+  complexes-in : complexes_sound v ≡ true
+  unfolding complexes_sound
+  complexes-in = arranged-in no_complex holds_complex _ blank_complex (λ c. c.id) blank-free_c blank-none_c 0 v.complex (record {
+    above = λ i h. some-id_c (cx v i) ((k.ranged.complex i).ok h);
+    asks = λ i h. and_in (complex_in_range (cx v i)) _ ((k.ranged.complex i).ok h) (le-leb (cx v i).id v.last (k.fine.good.xlast i h));
     rises = k.fine.good.rise2;
     dense = k.tidy.dense2;
     blanks = k.tidy.blank2;
   })
 
-  ids-in : idsDistinct v ≡ true
-  unfolding idsDistinct
-  ids-in = all_in _ noRegular v.regular (λ i. go i (held (reg v i).quantity) refl (restsComplex v (reg v i).id) refl)
+  ids-in : ids_distinct v ≡ true
+  unfolding ids_distinct
+  ids-in = all_in _ no_regular v.regular (λ i. go i (held (reg v i).quantity) refl (rests_complex v (reg v i).id) refl)
     where
-      go : (i : ℕ) (b : Bool) → held (reg v i).quantity ≡ b → (c : Bool) → restsComplex v (reg v i).id ≡ c → (not b || not c) ≡ true
+      go : (i : ℕ) (b : Bool) → held (reg v i).quantity ≡ b → (c : Bool) → rests_complex v (reg v i).id ≡ c → (not b || not c) ≡ true
       go i true h true r = let x = rests-out v (reg v i).id r in absurd (k.fine.good.rx i x.at h x.holds (sym x.is))
       go i true h false r = refl
       go i false h c r = refl
@@ -363,23 +363,23 @@ module _ (v : Venue) (k : Invariant v) where
       at : (s : ℕ) → s < 8 → apart v s ≡ true
       at = apart_in v k.uncrossed
 
-  legging-in : (n : ℕ) → leggingSound v n (lg v n) ≡ true
-  unfolding leggingSound AllStand
+  legging-in : (n : ℕ) → legging_sound v n (lg v n) ≡ true
+  unfolding legging_sound AllStand
   legging-in n = go (held (lg v n).quantity) refl
     where
       l : Legging
       l = lg v n
 
       go : (b : Bool) → held l.quantity ≡ b →
-          (if b then isId l.parent && isPrice l.price && isQuantity l.quantity && hasLeg (parentOf v l) (n / 2) (n % 2)
-          && oneToOne (parentOf v l) && leb l.quantity (parentOf v l).quantity && stands (verdict v n l) else blankLegging l) ≡ true
+          (if b then is_id l.parent && is_price l.price && is_quantity l.quantity && has_leg (parent_of v l) (n / 2) (n % 2)
+          && one_to_one (parent_of v l) && leb l.quantity (parent_of v l).quantity && stands (verdict v n l) else blank_legging l) ≡ true
       go true h =
           let home = k.fine.homes.home n h in
           let e = parent-found v k.fine n h in
           let a = (k.ranged.legging n).ok h in
-          let b = subst (λ (c : Complex). hasLeg c (n / 2) (n % 2) ≡ true) (sym e) (leg-in _ (n / 2) (n % 2) home.leg) in
+          let b = subst (λ (c : Complex). has_leg c (n / 2) (n % 2) ≡ true) (sym e) (leg-in _ (n / 2) (n % 2) home.leg) in
           let c = subst (λ (c : Complex). leb l.quantity c.quantity ≡ true) (sym e) (le-leb l.quantity _ home.enough) in
-          let o = subst (λ (c : Complex). oneToOne c ≡ true) (sym e) home.even in
+          let o = subst (λ (c : Complex). one_to_one c ≡ true) (sym e) home.even in
           and_in _ _ (and_in _ _ (and_in _ _ (and_in _ _ a b) o) c) (unfold stands in (rw (k.stand n)))
       go false h = (k.ranged.legging n).zero h
 
@@ -396,7 +396,7 @@ module _ (v : Venue) (k : Invariant v) where
     };
     is = unfold sound in
         (and_in _ _ (and_in _ _ (and_in _ _ (and_in _ _ (and_in _ _ (and_in _ _ (and_in _ _ (and_in _ _ (and_in _ _ regulars-in complexes-in)
-        (all_in listedInRange notListed v.series k.ranged.listed)) k.edited.rise) k.busy.rise)
+        (all_in listed_in_range not_listed v.series k.ranged.listed)) k.edited.rise) k.busy.rise)
         (le-leb v.reached v.last k.reached))
         (le-leb v.last 4294967295 k.ranged.last)) ids-in) aparts-in)
         (leggings-in v 0 v.legging (λ i. rw zero-add (legging-in i))));

@@ -10,15 +10,15 @@ use lib.ListN.{length, length-append}
 use borrow.Author.Tests.{ne_eqb}
 use Rattle.rules.specs.declared.Venue.{Venue}
 use Rattle.rules.specs.Base.{if◌then◌else◌}
-use Rattle.rules.specs.Words.{freshVenue}
-use Rattle.rules.specs.Messages.{messageOf}
+use Rattle.rules.specs.Words.{fresh_venue}
+use Rattle.rules.specs.Messages.{message_of}
 use Rattle.rules.specs.Records.{ForAll, Report, FourBytes, answer, cancelled, crossed, generated, looked, pair, removed, trade}
 use Rattle.rules.specs.Effects.{Effect, nothing}
 use Rattle.rules.specs.Refusals.{refusal}
 use Rattle.rules.specs.Step.{accept, answered, step}
 use Rattle.demands.specs.Demand.{Later, Opening, Seen, calls, opening, start}
 use Rattle.demands.specs.Soundness.{SoundAt}
-use Rattle.demands.specs.Truth.{AnswersOnce, OneMessage, RefusedAlone, Truth, answer_of, answers, answersOf, from, leaves, numbers, venueAfter}
+use Rattle.demands.specs.Truth.{AnswersOnce, OneMessage, RefusedAlone, Truth, answer_of, answers, answers_of, from, leaves, numbers, venue_after}
 use Rattle.rules.proofs.CallsLaws.{step_by}
 use Rattle.rules.proofs.Quiet.{NoAnswer, quiet-accept}
 use Rattle.demands.proofs.Account.{onto}
@@ -55,16 +55,16 @@ answers-append (looked _ ∷ rs) b = answers-append rs b
 -- One message ---------------------------------------------------------------------------------
 
 once : (v : Venue) (number : ℕ) (m : List ℕ) → AnswersOnce v number m
-unfolding step answered answer_of venueAfter nothing answers
+unfolding step answered answer_of venue_after nothing answers
 once v number m = record {
-  effects = (if eqb (refusal v m) 0 then accept number (messageOf m) v else nothing v).reports;
+  effects = (if eqb (refusal v m) 0 then accept number (message_of m) v else nothing v).reports;
   first = refl;
-  only = step_by (λ (e : Effect). answers e.reports ≡ []) v number m (λ _. no-answers (accept number (messageOf m) v).reports (quiet-accept number (messageOf m) v)) (λ _. refl);
+  only = step_by (λ (e : Effect). answers e.reports ≡ []) v number m (λ _. no-answers (accept number (message_of m) v).reports (quiet-accept number (message_of m) v)) (λ _. refl);
 }
 
 refused-alone : (v : Venue) (number : ℕ) (m : List ℕ) → refusal v m ≢ 0 → RefusedAlone v number m
-unfolding step answered venueAfter nothing
-refused-alone v number m n = record { venue = rw (ne_eqb (refusal v m) 0 n, venueAfter); reports = rw (ne_eqb (refusal v m) 0 n) }
+unfolding step answered venue_after nothing
+refused-alone v number m n = record { venue = rw (ne_eqb (refusal v m) 0 n, venue_after); reports = rw (ne_eqb (refusal v m) 0 n) }
 
 pub one-message : OneMessage
 one-message = record { once = once; alone = refused-alone }
@@ -79,15 +79,15 @@ shift : (n k : ℕ) → n + suc k ≡ suc n + k
 shift n k = omega arith
 
 -- one message more
-answersOf-more : (v : Venue) (n : ℕ) (ms : List (List ℕ)) (m : List ℕ) → answersOf v n (ms ++ (m ∷ [])) ≡ answersOf v n ms ++ (answer_of (leaves v n ms) (suc (n + length ms)) m ∷ [])
-unfolding answersOf leaves
-answersOf-more v n [] m = rw (add-zero n)
-answersOf-more v n (x ∷ ms) m = rw (shift n (length ms)) (ap (λ (l : List Report). answer_of v (suc n) x ∷ l) (answersOf-more (venueAfter v (suc n) x) (suc n) ms m))
+answers_of-more : (v : Venue) (n : ℕ) (ms : List (List ℕ)) (m : List ℕ) → answers_of v n (ms ++ (m ∷ [])) ≡ answers_of v n ms ++ (answer_of (leaves v n ms) (suc (n + length ms)) m ∷ [])
+unfolding answers_of leaves
+answers_of-more v n [] m = rw (add-zero n)
+answers_of-more v n (x ∷ ms) m = rw (shift n (length ms)) (ap (λ (l : List Report). answer_of v (suc n) x ∷ l) (answers_of-more (venue_after v (suc n) x) (suc n) ms m))
 
-leaves-more : (v : Venue) (n : ℕ) (ms : List (List ℕ)) (m : List ℕ) → leaves v n (ms ++ (m ∷ [])) ≡ venueAfter (leaves v n ms) (suc (n + length ms)) m
+leaves-more : (v : Venue) (n : ℕ) (ms : List (List ℕ)) (m : List ℕ) → leaves v n (ms ++ (m ∷ [])) ≡ venue_after (leaves v n ms) (suc (n + length ms)) m
 unfolding leaves
 leaves-more v n [] m = rw (add-zero n)
-leaves-more v n (x ∷ ms) m = rw (shift n (length ms)) (leaves-more (venueAfter v (suc n) x) (suc n) ms m)
+leaves-more v n (x ∷ ms) m = rw (shift n (length ms)) (leaves-more (venue_after v (suc n) x) (suc n) ms m)
 
 numbers-answers : (rs : List Report) → numbers rs ≡ numbers (answers rs)
 unfolding numbers answers
@@ -101,34 +101,34 @@ numbers-answers (crossed _ _ _ _ ∷ rs) = numbers-answers rs
 numbers-answers (cancelled _ _ ∷ rs) = numbers-answers rs
 numbers-answers (looked _ ∷ rs) = numbers-answers rs
 
-numbers_of : (v : Venue) (n : ℕ) (ms : List (List ℕ)) → numbers (answersOf v n ms) ≡ from (suc n) (length ms)
-unfolding numbers answersOf answer_of from
+numbers_of : (v : Venue) (n : ℕ) (ms : List (List ℕ)) → numbers (answers_of v n ms) ≡ from (suc n) (length ms)
+unfolding numbers answers_of answer_of from
 numbers_of v n [] = refl
-numbers_of v n (m ∷ ms) = ap (λ (l : List ℕ). suc n ∷ l) (numbers_of (venueAfter v (suc n) m) (suc n) ms)
+numbers_of v n (m ∷ ms) = ap (λ (l : List ℕ). suc n ∷ l) (numbers_of (venue_after v (suc n) m) (suc n) ms)
 
 -- What callers see ----------------------------------------------------------------------------
 
 -- told the truth so far, on a sound venue
 pub record Told (s : Seen) : Type 0 where
-  pub told : answers s.reports ≡ answersOf freshVenue 0 s.messages
+  pub told : answers s.reports ≡ answers_of fresh_venue 0 s.messages
   pub messages : length s.messages ≡ s.done
-  pub venue : s.venue ≡ leaves freshVenue 0 s.messages
+  pub venue : s.venue ≡ leaves fresh_venue 0 s.messages
   pub sound : SoundAt (suc s.done) s.venue
 
 pub start-told : Told start
-unfolding start answers answersOf leaves
+unfolding start answers answers_of leaves
 start-told = record { told = refl; messages = refl; venue = refl; sound = fresh-sound }
 
 pub more-told : (s : Seen) (bs : List ℕ) → Told s → FourBytes (suc s.done) → Told (onto s bs (step s.venue (suc s.done) bs).effect)
-unfolding onto venueAfter
+unfolding onto venue_after
 more-told s bs t few =
     let v = s.venue in
     let n = suc s.done in
     record {
       told =
-          rw (answers-append s.reports (step v n bs).effect.reports, t.told, step-answers v n bs, answersOf-more freshVenue 0 s.messages bs, zero-add, t.messages, ← t.venue);
+          rw (answers-append s.reports (step v n bs).effect.reports, t.told, step-answers v n bs, answers_of-more fresh_venue 0 s.messages bs, zero-add, t.messages, ← t.venue);
       messages = rw (length-append s.messages (bs ∷ []), t.messages) (omega arith);
-      venue = rw (leaves-more freshVenue 0 s.messages bs, zero-add, t.messages, ← t.venue);
+      venue = rw (leaves-more fresh_venue 0 s.messages bs, zero-add, t.messages, ← t.venue);
       sound = stays-sound v n few t.sound bs;
     }
 
@@ -140,7 +140,7 @@ truth o cs =
     let s = calls (opening o) cs in
     let t = all_told o cs in
     record {
-      numbered = numbers-answers s.reports ∙ ap numbers t.told ∙ numbers_of freshVenue 0 s.messages ∙ ap (from 1) t.messages;
+      numbered = numbers-answers s.reports ∙ ap numbers t.told ∙ numbers_of fresh_venue 0 s.messages ∙ ap (from 1) t.messages;
       told = t.told;
       messages = t.messages;
       venue = t.venue;

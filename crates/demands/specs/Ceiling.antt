@@ -7,20 +7,20 @@ use Rattle.rules.specs.Records.{Report, answer, cancelled, crossed, generated, l
 use Rattle.demands.specs.Demand.{Later, Opening, calls, opening}
 
 -- how many 67 of a series are of messages whose number passes a test; the first records are of message `now`
-unfoldable pub generatedBy : (ℕ → Bool) → (series now : ℕ) → List Report → ℕ
-generatedBy f s now [] = 0
-generatedBy f s now (answer number refusal mask count ∷ rs) = generatedBy f s number rs
-generatedBy f s now (trade series side price quantity taker maker ∷ rs) = generatedBy f s now rs
-generatedBy f s now (pair id n quantity ∷ rs) = generatedBy f s now rs
-generatedBy f s now (generated id series side price displayed quantity ∷ rs) =
-    (if f now && eqb series s then 1 else 0) + generatedBy f s now rs
-generatedBy f s now (removed id series side cause ∷ rs) = generatedBy f s now rs
-generatedBy f s now (crossed taker maker n quantity ∷ rs) = generatedBy f s now rs
-generatedBy f s now (cancelled id quantity ∷ rs) = generatedBy f s now rs
-generatedBy f s now (looked count ∷ rs) = generatedBy f s now rs
+unfoldable pub generated_by : (ℕ → Bool) → (series now : ℕ) → List Report → ℕ
+generated_by f s now [] = 0
+generated_by f s now (answer number refusal mask count ∷ rs) = generated_by f s number rs
+generated_by f s now (trade series side price quantity taker maker ∷ rs) = generated_by f s now rs
+generated_by f s now (pair id n quantity ∷ rs) = generated_by f s now rs
+generated_by f s now (generated id series side price displayed quantity ∷ rs) =
+    (if f now && eqb series s then 1 else 0) + generated_by f s now rs
+generated_by f s now (removed id series side cause ∷ rs) = generated_by f s now rs
+generated_by f s now (crossed taker maker n quantity ∷ rs) = generated_by f s now rs
+generated_by f s now (cancelled id quantity ∷ rs) = generated_by f s now rs
+generated_by f s now (looked count ∷ rs) = generated_by f s now rs
 
 -- of every list of calls, every series, and every 256 messages, numbered from first + 1 to first + 256
 -- rule: (m)1
 abbrev pub Ceiling : Type 0
 Ceiling = (o : Opening) (cs : List Later) (series first : ℕ) → series < 8 →
-    generatedBy (within (suc first) (first + 256)) series 0 (calls (opening o) cs).reports ≤ 20
+    generated_by (within (suc first) (first + 256)) series 0 (calls (opening o) cs).reports ≤ 20

@@ -8,16 +8,16 @@ use Rattle.rules.specs.declared.Message.{Message}
 use Rattle.rules.specs.declared.Message.TheVariants.{Order, TwoLeg, Cancel, Away, Status, Sweep, Increment, Percent, LimitedSweep}
 use Rattle.rules.specs.declared.Venue.{Venue}
 use Rattle.rules.specs.Base.{if◌then◌else◌, held}
-use Rattle.rules.specs.Words.{complexAt, freshVenue, opposite, with_last, withReached}
-use Rattle.rules.specs.Messages.{messageOf}
+use Rattle.rules.specs.Words.{complex_at, fresh_venue, opposite, with_last, with_reached}
+use Rattle.rules.specs.Messages.{message_of}
 use Rattle.rules.specs.Records.{Report, answer, trade, pair, generated, removed, crossed, cancelled, looked}
 use Rattle.rules.specs.Effects.{ended, turned}
-use Rattle.rules.specs.Prices.{bestRegular, net}
-use Rattle.rules.specs.Trading.{freeComplex, putComplex}
-use Rattle.rules.specs.Complex.{anyClosed, cross, crossTurn, goingRound, idReached, restingPlaces, work}
+use Rattle.rules.specs.Prices.{best_regular, net}
+use Rattle.rules.specs.Trading.{free_complex, put_complex}
+use Rattle.rules.specs.Complex.{any_closed, cross, cross_turn, going_round, id_reached, resting_places, work}
 use Rattle.rules.specs.Refusals.{refusal}
 use Rattle.demands.specs.Demand.{Later, Opening, calls, opening}
-use Rattle.demands.specs.Truth.{venueAfter}
+use Rattle.demands.specs.Truth.{venue_after}
 
 -- Moments -------------------------------------------------------------------------------------
 
@@ -26,45 +26,45 @@ pub record Moment : Type 0 where
   pub venue : Venue
   pub place : ℕ
 
--- the turns of `repeat turns (crossTurn i)` on v in which something is done
+-- the turns of `repeat turns (cross_turn i)` on v in which something is done
 unfoldable pub crossings : (turns i : ℕ) → Venue → List Moment
 crossings zero i v = []
 crossings (suc turns) i v =
-    elim (crossTurn i v) [ ended ↦ [] | turned e ↦ record { venue = v; place = i } ∷ crossings turns i e.venue ]
+    elim (cross_turn i v) [ ended ↦ [] | turned e ↦ record { venue = v; place = i } ∷ crossings turns i e.venue ]
 
 -- those of `work i`
-unfoldable pub inWork : (i : ℕ) → Venue → List Moment
-inWork i v = if anyClosed v (complexAt v i) then [] else crossings (complexAt v i).quantity i v
+unfoldable pub in_work : (i : ℕ) → Venue → List Moment
+in_work i v = if any_closed v (complex_at v i) then [] else crossings (complex_at v i).quantity i v
 
--- those of `eachOf work places`, in a sweep
-unfoldable pub inEachOf : (places : List ℕ) → Venue → List Moment
-inEachOf [] v = []
-inEachOf (i ∷ places) v = inWork i v ++ inEachOf places (work i v).venue
+-- those of `each_of work places`, in a sweep
+unfoldable pub in_each_of : (places : List ℕ) → Venue → List Moment
+in_each_of [] v = []
+in_each_of (i ∷ places) v = in_work i v ++ in_each_of places (work i v).venue
 
 -- those of an accepted message: only a complex order that arrives and sweeps cross
-unfoldable pub inMessage : Message → Venue → List Moment
-inMessage (Order o) v = []
-inMessage (TwoLeg c) v =
+unfoldable pub in_message : Message → Venue → List Moment
+in_message (Order o) v = []
+in_message (TwoLeg c) v =
     let w = with_last v c.id in
-    inWork (freeComplex w) (putComplex (freeComplex w) c w)
-inMessage (Cancel id) v = []
-inMessage (Away s bid offer) v = []
-inMessage (Status s x) v = []
-inMessage Sweep v = inEachOf (restingPlaces v) v
-inMessage (Increment s i e) v = []
-inMessage (Percent x e) v = []
-inMessage (LimitedSweep n) v =
-    let places = take n (goingRound v) in
-    inEachOf places (withReached v (idReached v places))
+    in_work (free_complex w) (put_complex (free_complex w) c w)
+in_message (Cancel id) v = []
+in_message (Away s bid offer) v = []
+in_message (Status s x) v = []
+in_message Sweep v = in_each_of (resting_places v) v
+in_message (Increment s i e) v = []
+in_message (Percent x e) v = []
+in_message (LimitedSweep n) v =
+    let places = take n (going_round v) in
+    in_each_of places (with_reached v (id_reached v places))
 
 -- those of the message at the front of bs
-unfoldable pub inStep : Venue → (message : List ℕ) → List Moment
-inStep v bs = if eqb (refusal v bs) 0 then inMessage (messageOf bs) v else []
+unfoldable pub in_step : Venue → (message : List ℕ) → List Moment
+in_step v bs = if eqb (refusal v bs) 0 then in_message (message_of bs) v else []
 
 -- those of messages on v one after another, after n messages
-unfoldable pub inAll : Venue → (n : ℕ) → (messages : List (List ℕ)) → List Moment
-inAll v n [] = []
-inAll v n (m ∷ ms) = inStep v m ++ inAll (venueAfter v (suc n) m) (suc n) ms
+unfoldable pub in_all : Venue → (n : ℕ) → (messages : List (List ℕ)) → List Moment
+in_all v n [] = []
+in_all v n (m ∷ ms) = in_step v m ++ in_all (venue_after v (suc n) m) (suc n) ms
 
 -- What is written at a moment -----------------------------------------------------------------
 
@@ -72,19 +72,19 @@ inAll v n (m ∷ ms) = inStep v m ++ inAll (venueAfter v (suc n) m) (suc n) ms
 -- at net t
 abbrev pub Respects : Venue → Complex → (t : ℤ) → Type 0
 Respects v c t =
-    let a = bestRegular v c.series1 (opposite c.side1) in
-    let b = bestRegular v c.series2 (opposite c.side2) in
+    let a = best_regular v c.series1 (opposite c.side1) in
+    let b = best_regular v c.series2 (opposite c.side2) in
     held a ≡ true → held b ≡ true → le_z t (net c a b) ≡ true
 
 -- the record r is the 70 of the cross made at a moment: the order whose turn it is takes, at the resting limit of the maker
 pub record Deal (x : Moment) (r : Report) : Type 0 where
   pub maker : ℕ
   pub quantity : ℕ
-  pub is : crossTurn x.place x.venue ≡ turned (cross x.place maker quantity x.venue)
+  pub is : cross_turn x.place x.venue ≡ turned (cross x.place maker quantity x.venue)
   pub told : r ≡
-      crossed (complexAt x.venue x.place).id (complexAt x.venue maker).id (neg_ℤ (complexAt x.venue maker).limit) quantity
-  pub taker : Respects x.venue (complexAt x.venue x.place) (neg_ℤ (complexAt x.venue maker).limit)
-  pub resting : Respects x.venue (complexAt x.venue maker) (complexAt x.venue maker).limit
+      crossed (complex_at x.venue x.place).id (complex_at x.venue maker).id (neg_ℤ (complex_at x.venue maker).limit) quantity
+  pub taker : Respects x.venue (complex_at x.venue x.place) (neg_ℤ (complex_at x.venue maker).limit)
+  pub resting : Respects x.venue (complex_at x.venue maker) (complex_at x.venue maker).limit
 
 -- a record that is no 70
 abbrev pub NoCross : Report → Type 0
@@ -109,4 +109,4 @@ pub data Dealt : List Moment → List Report → Type 0 where
 abbrev pub CrossesRespect : Type 0
 CrossesRespect = (o : Opening) (cs : List Later) →
     let s = calls (opening o) cs in
-    Dealt (inAll freshVenue 0 s.messages) s.reports
+    Dealt (in_all fresh_venue 0 s.messages) s.reports

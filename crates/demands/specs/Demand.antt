@@ -9,7 +9,7 @@
 -- ratios.
 -- The calls are those of `Calls`. That the compiled ones are `Calls.run` and `Calls.one` is what the contracts say, by equation and with
 -- no `requires`: of `run` and `one_message` in crates/engine/src/lib.rt, of `legging_run` and `legging_message` in crates/c_api/src/lib.rt.
--- Beyond document 01, runs on a venue (`Calls.runUpon`; `run_upon`, `legging_messages`) stand in the list wherever one-message calls do.
+-- Beyond document 01, runs on a venue (`Calls.run_upon`; `run_upon`, `legging_messages`) stand in the list wherever one-message calls do.
 use Rattle.std.specs.Prelude.{◌≡◌, false, true, ◌%◌, ◌*◌, ◌+◌, ◌/◌, ◌<◌, ◌≤◌, suc, zero, ℕ, drop, get_or, length}
 use mathlib.Core.List.{List, Memᴰ, [], ◌++◌, ◌∷◌}
 use Rattle.std.specs.Int.Signed.{le_z}
@@ -21,23 +21,23 @@ use Rattle.rules.specs.declared.Message.TheVariants.{Order, TwoLeg}
 use Rattle.rules.specs.declared.Regular.{Regular}
 use Rattle.rules.specs.declared.Venue.{Venue}
 use Rattle.rules.specs.Base.{held}
-use Rattle.rules.specs.Words.{freshVenue, isComplexOf, leggingAt, noLegging, oneToOne, opposite, regularAt}
+use Rattle.rules.specs.Words.{fresh_venue, is_complex_of, legging_at, no_legging, one_to_one, opposite, regular_at}
 use Rattle.rules.specs.Settings.{increment}
-use Rattle.rules.specs.Bytes.{lengthField}
-use Rattle.rules.specs.Messages.{messageOf}
+use Rattle.rules.specs.Bytes.{length_field}
+use Rattle.rules.specs.Messages.{message_of}
 use Rattle.rules.specs.Records.{Report, answer, pair, records, trade}
-use Rattle.rules.specs.Removal.{removeOf}
-use Rattle.rules.specs.Prices.{better, displayedPrice, inBand, restsAt, shownSize}
-use Rattle.rules.specs.Standing.{hasLeg, legNet, otherClear, otherLeg, parentOf}
-use Rattle.rules.specs.Trading.{putRegular, tradeAtPrice}
+use Rattle.rules.specs.Removal.{remove_of}
+use Rattle.rules.specs.Prices.{better, displayed_price, in_band, rests_at, shown_size}
+use Rattle.rules.specs.Standing.{has_leg, leg_net, other_clear, other_leg, parent_of}
+use Rattle.rules.specs.Trading.{put_regular, trade_at_price}
 use Rattle.rules.specs.Order.{hit}
-use Rattle.rules.specs.Calls.{Call, one, run, runUpon}
-use Rattle.rules.specs.Sums.{cancelledOf, contracts, contractsAt, crossedFor, openComplex, openRegular, paired, total}
+use Rattle.rules.specs.Calls.{Call, one, run, run_upon}
+use Rattle.rules.specs.Sums.{cancelled_of, contracts, contracts_at, crossed_for, open_complex, open_regular, paired, total}
 
 -- The list of calls ---------------------------------------------------------------------------
 
 -- What a call is given: bytes, and a report memory of a length. "Any contents, any report memory": what stood in that memory is no matter,
--- as `run`, `one` and `runUpon` say every byte of it.
+-- as `run`, `one` and `run_upon` say every byte of it.
 -- rule: D2
 pub record Given : Type 0 where
   pub room : ℕ
@@ -47,7 +47,7 @@ pub record Given : Type 0 where
 -- rule: D2
 unfoldable pub parts : (done : ℕ) → List ℕ → List (List ℕ)
 parts zero bs = []
-parts (suc done) bs = bs ∷ parts done (drop (lengthField bs) bs)
+parts (suc done) bs = bs ∷ parts done (drop (length_field bs) bs)
 
 -- what callers have seen so far
 -- rule: D2
@@ -63,7 +63,7 @@ pub record Seen : Type 0 where
 -- "the first call upon a fresh venue", "with the messages done so far, at first none, gone before"
 -- rule: D2
 unfoldable pub start : Seen
-start = record { venue = freshVenue; done = 0; messages = []; reports = [] }
+start = record { venue = fresh_venue; done = 0; messages = []; reports = [] }
 
 -- one more call, given these bytes: "where a call ends early, it holds of what was done"
 -- rule: D2
@@ -79,40 +79,40 @@ extend s bs c = record {
 -- are given"; "the kinds that come later are in it": the kinds of document 02 are messages like the others
 -- rule: D2
 pub data Opening : Type 0 where
-  byRun : Given → Opening
+  by_run : Given → Opening
   alone : Opening
 
 -- rule: D2
 unfoldable pub opening : Opening → Seen
-opening (byRun g) = extend start g.bytes (run g.room g.bytes)
+opening (by_run g) = extend start g.bytes (run g.room g.bytes)
 opening alone = start
 
 -- a later call: with one message, as document 01's are, or, beyond it, with a list of messages
 pub data Later : Type 0 where
-  byMessage : Given → Later
-  byList : Given → Later
+  by_message : Given → Later
+  by_list : Given → Later
 
-unfoldable pub givenTo : Later → Given
-givenTo (byMessage g) = g
-givenTo (byList g) = g
+unfoldable pub given_to : Later → Given
+given_to (by_message g) = g
+given_to (by_list g) = g
 
 -- what it does on a venue, after so many messages
-unfoldable pub callUpon : Later → Venue → (before : ℕ) → Call
-callUpon (byMessage g) v n = one v n g.room g.bytes
-callUpon (byList g) v n = runUpon v n g.room g.bytes
+unfoldable pub call_upon : Later → Venue → (before : ℕ) → Call
+call_upon (by_message g) v n = one v n g.room g.bytes
+call_upon (by_list g) v n = run_upon v n g.room g.bytes
 
 -- "each later one upon the venue that the last one returned, with the messages done so far … gone before. Nothing else changes the venue
 -- meanwhile." In document 01's list each later call has one message
 -- rule: D2
 unfoldable pub calls : Seen → List Later → Seen
 calls s [] = s
-calls s (c ∷ cs) = calls (extend s (givenTo c).bytes (callUpon c s.venue s.done)) cs
+calls s (c ∷ cs) = calls (extend s (given_to c).bytes (call_upon c s.venue s.done)) cs
 
 -- Legging orders ------------------------------------------------------------------------------
 
 -- the other leg's trades when k contracts of c's leg in series s are hit: k contracts at its clear price, on the venue as it stands
-abbrev pub otherTrades : Venue → Complex → (s k : ℕ) → List Report
-otherTrades v c s k = (tradeAtPrice k c.id (otherLeg c s).series (otherLeg c s).side (otherClear v c s) k v).reports
+abbrev pub other_trades : Venue → Complex → (s k : ℕ) → List Report
+other_trades v c s k = (trade_at_price k c.id (other_leg c s).series (other_leg c s).side (other_clear v c s) k v).reports
 
 -- r is a trade by this taker, of this side, with a regular order that rests in the series, on the side that the taker takes, at the
 -- price, for no more than it shows (request (e): "A complex order takes shown size only")
@@ -120,18 +120,18 @@ otherTrades v c s k = (tradeAtPrice k c.id (otherLeg c s).series (otherLeg c s).
 pub record FromResting (v : Venue) (taker series side price : ℕ) (r : Report) : Type 0 where
   -- the maker's place
   pub at : ℕ
-  pub rests : restsAt series (opposite side) (regularAt v at) ≡ true
-  pub priced : (regularAt v at).price ≡ price
+  pub rests : rests_at series (opposite side) (regular_at v at) ≡ true
+  pub priced : (regular_at v at).price ≡ price
   pub contracts : ℕ
-  pub withinShown : contracts ≤ shownSize (regularAt v at)
-  pub is : r ≡ trade series side price contracts taker (regularAt v at).id
+  pub within_shown : contracts ≤ shown_size (regular_at v at)
+  pub is : r ≡ trade series side price contracts taker (regular_at v at).id
 
 -- The records that a hit writes, of k contracts of the legging order l of c at side d of series s, by the order with the id `taker`:
 -- "trade, then k contracts of the other leg at its clear price …, then 66, then removal of all its parent's legging orders".
-abbrev pub hitRecords : Venue → (c : Complex) → (s d : ℕ) → (l : Legging) → (k taker : ℕ) → List Report
-hitRecords v c s d l k taker =
+abbrev pub hit_records : Venue → (c : Complex) → (s d : ℕ) → (l : Legging) → (k taker : ℕ) → List Report
+hit_records v c s d l k taker =
     trade s (opposite d) l.price k taker c.id
-    ∷ (otherTrades v c s k ++ (pair c.id (legNet c s d l.price (otherClear v c s)) k ∷ (removeOf c.id Executed v).reports))
+    ∷ (other_trades v c s k ++ (pair c.id (leg_net c s d l.price (other_clear v c s)) k ∷ (remove_of c.id Executed v).reports))
 
 -- "The hit for k … is the one written under Order: it finds k regular contracts at the other leg's clear price, its own price and that one
 -- netting to N or less": of the legging order l of c at side d of series s, on the venue as it stands, "whether or not ids, places or
@@ -139,41 +139,41 @@ hitRecords v c s d l k taker =
 -- rule: D10
 pub record Hit (v : Venue) (c : Complex) (s d : ℕ) (l : Legging) (k : ℕ) : Type 0 where
   -- the other leg has a clear price
-  pub clear : held (otherClear v c s) ≡ true
+  pub clear : held (other_clear v c s) ≡ true
   -- the legging order's price and that one net to N or less
-  pub net : le_z (legNet c s d l.price (otherClear v c s)) c.limit ≡ true
+  pub net : le_z (leg_net c s d l.price (other_clear v c s)) c.limit ≡ true
   -- the trades of the other leg are k contracts at that price
-  pub found : total (contractsAt c.id (otherLeg c s).series (otherClear v c s)) (otherTrades v c s k) ≡ k
+  pub found : total (contracts_at c.id (other_leg c s).series (other_clear v c s)) (other_trades v c s k) ≡ k
   -- "k regular contracts": each of these trades is with a regular order that rests in that series, on the side that the leg takes, at
   -- that price
-  pub makers : (r : Report) → Memᴰ r (otherTrades v c s k) →
-      FromResting v c.id (otherLeg c s).series (otherLeg c s).side (otherClear v c s) r
+  pub makers : (r : Report) → Memᴰ r (other_trades v c s k) →
+      FromResting v c.id (other_leg c s).series (other_leg c s).side (other_clear v c s) r
   -- it is `Order.hit`: the order at place i, of the same series and the other side, that hits l writes these records
-  pub written : (i : ℕ) → (regularAt v i).series ≡ s → (regularAt v i).side ≡ opposite d →
-      (hit i l k v).reports ≡ hitRecords v c s d l k (regularAt v i).id
+  pub written : (i : ℕ) → (regular_at v i).series ≡ s → (regular_at v i).side ≡ opposite d →
+      (hit i l k v).reports ≡ hit_records v c s d l k (regular_at v i).id
   -- and so does an order o that arrives at a free place i
-  pub arrives : (i : ℕ) (o : Regular) → i < length v.regular → held (regularAt v i).quantity ≡ false →
-      o.series ≡ s → o.side ≡ opposite d → (hit i l k (putRegular i o v)).reports ≡ hitRecords v c s d l k o.id
+  pub arrives : (i : ℕ) (o : Regular) → i < length v.regular → held (regular_at v i).quantity ≡ false →
+      o.series ≡ s → o.side ≡ opposite d → (hit i l k (put_regular i o v)).reports ≡ hit_records v c s d l k o.id
 
 -- of the legging order l that stands at side d of series s
 -- rule: D8, D9, D10, (g)6
 pub record Standing (v : Venue) (s d : ℕ) (l : Legging) : Type 0 where
   -- its complex order rests, and has the leg
-  pub rests : isComplexOf l.parent (parentOf v l) ≡ true
-  pub leg : hasLeg (parentOf v l) s d ≡ true
+  pub rests : is_complex_of l.parent (parent_of v l) ≡ true
+  pub leg : has_leg (parent_of v l) s d ≡ true
   -- request (g): orders of unequal ratios "never generate"
-  pub even : oneToOne (parentOf v l) ≡ true
+  pub even : one_to_one (parent_of v l) ≡ true
   -- "Best displayed: no regular order's price … in the same series and side is better (higher to buy, lower to sell), away prices aside"
-  pub best : (i : ℕ) → restsAt s d (regularAt v i) ≡ true →
-      better d (regularAt v i).price (displayedPrice (increment v s) d l.price) ≡ false
+  pub best : (i : ℕ) → rests_at s d (regular_at v i) ≡ true →
+      better d (regular_at v i).price (displayed_price (increment v s) d l.price) ≡ false
   -- "and no legging order's displayed price": of what stands at a place m, which is side m % 2 of series m / 2
-  pub bestLegging : (m : ℕ) → m / 2 ≡ s → m % 2 ≡ d → held (get_or v.legging m noLegging).quantity ≡ true →
-      better d (displayedPrice (increment v s) d (get_or v.legging m noLegging).price)
-      (displayedPrice (increment v s) d l.price) ≡ false
+  pub best_legging : (m : ℕ) → m / 2 ≡ s → m % 2 ≡ d → held (get_or v.legging m no_legging).quantity ≡ true →
+      better d (displayed_price (increment v s) d (get_or v.legging m no_legging).price)
+      (displayed_price (increment v s) d l.price) ≡ false
   -- "Within the band: its complex order's N is in band."
-  pub band : inBand v (parentOf v l) (parentOf v l).limit ≡ true
+  pub band : in_band v (parent_of v l) (parent_of v l).limit ≡ true
   -- "for each k from 1 to its quantity"
-  pub hit : (k : ℕ) → 1 ≤ k → k ≤ l.quantity → Hit v (parentOf v l) s d l k
+  pub hit : (k : ℕ) → 1 ≤ k → k ≤ l.quantity → Hit v (parent_of v l) s d l k
 
 -- Accounts ------------------------------------------------------------------------------------
 
@@ -181,7 +181,7 @@ pub record Standing (v : Venue) (s d : ℕ) (l : Legging) : Type 0 where
 -- rule: D11
 pub record Accepted (s : Seen) (m : Message) : Type 0 where
   pub before : ℕ
-  pub is : messageOf (get_or s.messages before []) ≡ m
+  pub is : message_of (get_or s.messages before []) ≡ m
   pub mask : ℕ
   pub count : ℕ
   pub told : Memᴰ (answer (suc before) 0 mask count) s.reports
@@ -197,21 +197,21 @@ pub record ComplexAdds (s : Seen) (c : Complex) : Type 0 where
   pub second : total (contracts c.id c.series2) s.reports ≡ c.ratio2 * total (paired c.id) s.reports
   -- entered = paired + crossed + cancelled + still open
   pub adds : c.quantity ≡
-      total (paired c.id) s.reports + total (crossedFor c.id) s.reports
-      + total (cancelledOf c.id) s.reports + openComplex c.id s.venue.complex
+      total (paired c.id) s.reports + total (crossed_for c.id) s.reports
+      + total (cancelled_of c.id) s.reports + open_complex c.id s.venue.complex
 
 -- beyond the demand, of a regular order: entered = traded + cancelled + still open
 pub record OrderAdds (s : Seen) (o : Regular) : Type 0 where
   pub adds : o.quantity ≡
-      total (contracts o.id o.series) s.reports + total (cancelledOf o.id) s.reports
-      + openRegular o.id s.venue.regular
+      total (contracts o.id o.series) s.reports + total (cancelled_of o.id) s.reports
+      + open_regular o.id s.venue.regular
 
 -- The claim -----------------------------------------------------------------------------------
 
 -- rule: D1
 pub record Holds (s : Seen) : Type 0 where
-  pub standing : (series side : ℕ) → side < 2 → held (leggingAt s.venue series side).quantity ≡ true →
-      Standing s.venue series side (leggingAt s.venue series side)
+  pub standing : (series side : ℕ) → side < 2 → held (legging_at s.venue series side).quantity ≡ true →
+      Standing s.venue series side (legging_at s.venue series side)
   pub complexes : (c : Complex) → Accepted s (TwoLeg c) → ComplexAdds s c
   pub orders : (o : Regular) → Accepted s (Order o) → OrderAdds s o
 

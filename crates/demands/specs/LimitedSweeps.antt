@@ -7,14 +7,14 @@ use Rattle.rules.specs.declared.Message.{Message}
 use Rattle.rules.specs.declared.Message.TheVariants.{Away, Cancel, Increment, LimitedSweep, Order, Percent, Status, Sweep, TwoLeg}
 use Rattle.rules.specs.declared.Venue.{Venue}
 use Rattle.rules.specs.Base.{held, if◌then◌else◌, keep}
-use Rattle.rules.specs.Words.{complexAt}
-use Rattle.rules.specs.Messages.{messageOf}
+use Rattle.rules.specs.Words.{complex_at}
+use Rattle.rules.specs.Messages.{message_of}
 use Rattle.rules.specs.Records.{ForAll, Report, answer, cancelled, crossed, generated, looked, pair, removed, trade}
-use Rattle.rules.specs.Complex.{goingRound}
+use Rattle.rules.specs.Complex.{going_round}
 use Rattle.rules.specs.Refusals.{refusal}
 use Rattle.rules.specs.Step.{step}
 use Rattle.demands.specs.Soundness.{SoundAt, SoundVenue}
-use Rattle.demands.specs.Truth.{answer_of, venueAfter}
+use Rattle.demands.specs.Truth.{answer_of, venue_after}
 
 -- What a limited sweep looks at ---------------------------------------------------------------
 
@@ -71,7 +71,7 @@ pub record Limited (v : Venue) (number : ℕ) (message : List ℕ) (n : ℕ) : T
   -- "the lesser of n and the orders resting when it starts"
   pub lesser : length (looks n v) ≡ min n (length (resting v))
   -- the orders at whose places it works and then generates
-  pub places : map (λ i. (complexAt v i).id) (take n (goingRound v)) ≡ looks n v
+  pub places : map (λ i. (complex_at v i).id) (take n (going_round v)) ≡ looks n v
   -- "It writes record 72, one u8, right after its 64: the number looked at"; and no other
   pub effects : List Report
   pub written : (step v number message).effect.reports ≡ answer_of v number message ∷ looked (length (looks n v)) ∷ effects
@@ -79,35 +79,35 @@ pub record Limited (v : Venue) (number : ℕ) (message : List ℕ) (n : ℕ) : T
   -- "limited to n resting orders …, generation too": only orders that it looks at take, and only they generate
   pub only : ForAll (Among (looks n v)) effects
   -- the last id looked at, after which the next one starts; where nothing rests, the one before
-  pub reached : (venueAfter v number message).reached ≡ last_of v.reached (looks n v)
+  pub reached : (venue_after v number message).reached ≡ last_of v.reached (looks n v)
 
 -- Messages one after another ------------------------------------------------------------------
 
 -- the ids that a message looks at: only a limited sweep does
-unfoldable pub looksBy : Message → Venue → List ℕ
-looksBy (Order o) v = []
-looksBy (TwoLeg c) v = []
-looksBy (Cancel id) v = []
-looksBy (Away s bid offer) v = []
-looksBy (Status s x) v = []
-looksBy Sweep v = []
-looksBy (Increment s i e) v = []
-looksBy (Percent x e) v = []
-looksBy (LimitedSweep n) v = looks n v
+unfoldable pub looks_by : Message → Venue → List ℕ
+looks_by (Order o) v = []
+looks_by (TwoLeg c) v = []
+looks_by (Cancel id) v = []
+looks_by (Away s bid offer) v = []
+looks_by (Status s x) v = []
+looks_by Sweep v = []
+looks_by (Increment s i e) v = []
+looks_by (Percent x e) v = []
+looks_by (LimitedSweep n) v = looks n v
 
 -- the message at the front of bs, where it is accepted
-unfoldable pub looksIn : Venue → (message : List ℕ) → List ℕ
-looksIn v bs = if eqb (refusal v bs) 0 then looksBy (messageOf bs) v else []
+unfoldable pub looks_in : Venue → (message : List ℕ) → List ℕ
+looks_in v bs = if eqb (refusal v bs) 0 then looks_by (message_of bs) v else []
 
 -- messages on v one after another, after n messages
-unfoldable pub looksAll : Venue → (n : ℕ) → (messages : List (List ℕ)) → List ℕ
-looksAll v n [] = []
-looksAll v n (m ∷ ms) = looksIn v m ++ looksAll (venueAfter v (suc n) m) (suc n) ms
+unfoldable pub looks_all : Venue → (n : ℕ) → (messages : List (List ℕ)) → List ℕ
+looks_all v n [] = []
+looks_all v n (m ∷ ms) = looks_in v m ++ looks_all (venue_after v (suc n) m) (suc n) ms
 
 -- a complex order with this id rests when each of the messages starts
 abbrev pub Stays : (id : ℕ) → Venue → (n : ℕ) → (messages : List (List ℕ)) → Type 0
 Stays x v n [] = Unit {0}
-Stays x v n (m ∷ ms) = Memᴰ x (resting v) × Stays x (venueAfter v (suc n) m) (suc n) ms
+Stays x v n (m ∷ ms) = Memᴰ x (resting v) × Stays x (venue_after v (suc n) m) (suc n) ms
 
 -- x and y by turns among some ids, x first
 pub data InTurn : (x y : ℕ) → List ℕ → Type 0 where
@@ -119,13 +119,13 @@ pub data InTurn : (x y : ℕ) → List ℕ → Type 0 where
 
 -- rule: (m)7
 pub record LimitedSweeps : Type 0 where
-  pub looksAt : (v : Venue) → SoundVenue v → (number : ℕ) (message : List ℕ) (n : ℕ) →
-      messageOf message ≡ LimitedSweep n → refusal v message ≡ 0 → Limited v number message n
+  pub looks_at : (v : Venue) → SoundVenue v → (number : ℕ) (message : List ℕ) (n : ℕ) →
+      message_of message ≡ LimitedSweep n → refusal v message ≡ 0 → Limited v number message n
   -- "the last id that a kind 11 looked at": every other message leaves it, and writes no 72
-  pub others : (v : Venue) (number : ℕ) (message : List ℕ) → ((n : ℕ) → messageOf message ≡ LimitedSweep n → refusal v message ≢ 0) →
-      ((venueAfter v number message).reached ≡ v.reached) × ForAll NoLook (step v number message).effect.reports
+  pub others : (v : Venue) (number : ℕ) (message : List ℕ) → ((n : ℕ) → message_of message ≡ LimitedSweep n → refusal v message ≢ 0) →
+      ((venue_after v number message).reached ≡ v.reached) × ForAll NoLook (step v number message).effect.reports
   -- Any messages on a sound venue, whatever else they do: of two orders that stay in rest neither is looked at twice before the other
   -- is. So between two looks at one of them every other one is looked at once.
   pub in_turn : (v : Venue) (before : ℕ) → SoundAt (suc before) v → (messages : List (List ℕ)) → before + length messages < 4294967296 →
       (x y : ℕ) → x ≢ y → Stays x v before messages → Stays y v before messages →
-      InTurn x y (looksAll v before messages) ⊎ InTurn y x (looksAll v before messages)
+      InTurn x y (looks_all v before messages) ⊎ InTurn y x (looks_all v before messages)

@@ -2,14 +2,14 @@
 use Rattle.std.specs.Prelude.{◌≡◌, List, ◌<◌, ◌≤◌, ℕ, length}
 use Rattle.rules.specs.declared.Venue.{Venue}
 use Rattle.rules.specs.Bytes.{bytes}
-use Rattle.rules.specs.Records.{ForAll, Fits, Report, encodeAll, records, sheet}
+use Rattle.rules.specs.Records.{ForAll, Fits, Report, encode_all, records, sheet}
 use Rattle.rules.specs.Step.{step}
-use Rattle.rules.specs.Calls.{one, run, runUpon}
+use Rattle.rules.specs.Calls.{one, run, run_upon}
 use Rattle.demands.specs.Soundness.{SoundVenue}
 
 -- "the sheet ends at the first zero length or at the end of the report memory": reading so gives back exactly the records written
 abbrev pub ReadsBack : Type 0
-ReadsBack = (room : ℕ) (rs : List Report) → ForAll Fits rs → length (encodeAll rs) ≤ room → records (sheet room rs) ≡ rs
+ReadsBack = (room : ℕ) (rs : List Report) → ForAll Fits rs → length (encode_all rs) ≤ room → records (sheet room rs) ≡ rs
 
 -- on a sound venue every record of a message fits its widths
 abbrev pub StepFits : Type 0
@@ -18,6 +18,6 @@ StepFits = (v : Venue) → SoundVenue v → (number : ℕ) → number < 42949672
 
 -- the definition gives the whole report memory: it has the length of the memory given, whatever the call does
 pub record WholeMemory : Type 0 where
-  pub byRun : (room : ℕ) (bytes : List ℕ) → length (run room bytes).report ≡ room
-  pub byOne : (v : Venue) (before room : ℕ) (bytes : List ℕ) → length (one v before room bytes).report ≡ room
-  pub byRunUpon : (v : Venue) (before room : ℕ) (bytes : List ℕ) → length (runUpon v before room bytes).report ≡ room
+  pub by_run : (room : ℕ) (bytes : List ℕ) → length (run room bytes).report ≡ room
+  pub by_one : (v : Venue) (before room : ℕ) (bytes : List ℕ) → length (one v before room bytes).report ≡ room
+  pub by_run_upon : (v : Venue) (before room : ℕ) (bytes : List ℕ) → length (run_upon v before room bytes).report ≡ room

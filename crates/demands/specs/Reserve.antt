@@ -6,10 +6,10 @@ use Rattle.rules.specs.declared.Message.TheVariants.{Away, Cancel, Increment, Li
 use Rattle.rules.specs.declared.Regular.{Regular}
 use Rattle.rules.specs.declared.Venue.{Venue}
 use Rattle.rules.specs.Base.{held, if◌then◌else◌}
-use Rattle.rules.specs.Words.{leggingAt, opposite, regularAt}
-use Rattle.rules.specs.Messages.{messageOf}
+use Rattle.rules.specs.Words.{legging_at, opposite, regular_at}
+use Rattle.rules.specs.Messages.{message_of}
 use Rattle.rules.specs.Records.{Report, answer, cancelled, crossed, generated, looked, pair, removed, trade}
-use Rattle.rules.specs.Prices.{restsAt, shownSize}
+use Rattle.rules.specs.Prices.{rests_at, shown_size}
 use Rattle.rules.specs.Step.{step}
 use Rattle.rules.specs.Sums.{total}
 use Rattle.demands.specs.Soundness.{SoundVenue}
@@ -17,34 +17,34 @@ use Rattle.demands.specs.Soundness.{SoundVenue}
 -- An order that arrives -----------------------------------------------------------------------
 
 -- the quantity of a trade between a taker and a maker
-unfoldable pub tradeOf : (taker maker : ℕ) → Report → List ℕ
-tradeOf x y (answer n f m c) = []
-tradeOf x y (trade s d p q taker maker) = if eqb taker x && eqb maker y then q ∷ [] else []
-tradeOf x y (pair i n q) = []
-tradeOf x y (generated i s d p displayed q) = []
-tradeOf x y (removed i s d c) = []
-tradeOf x y (crossed taker maker n q) = []
-tradeOf x y (cancelled i q) = []
-tradeOf x y (looked n) = []
+unfoldable pub trade_of : (taker maker : ℕ) → Report → List ℕ
+trade_of x y (answer n f m c) = []
+trade_of x y (trade s d p q taker maker) = if eqb taker x && eqb maker y then q ∷ [] else []
+trade_of x y (pair i n q) = []
+trade_of x y (generated i s d p displayed q) = []
+trade_of x y (removed i s d c) = []
+trade_of x y (crossed taker maker n q) = []
+trade_of x y (cancelled i q) = []
+trade_of x y (looked n) = []
 
 -- and of all of them, in order
-unfoldable pub tradesOf : (taker maker : ℕ) → List Report → List ℕ
-tradesOf x y [] = []
-tradesOf x y (r ∷ rs) = tradeOf x y r ++ tradesOf x y rs
+unfoldable pub trades_of : (taker maker : ℕ) → List Report → List ℕ
+trades_of x y [] = []
+trades_of x y (r ∷ rs) = trade_of x y r ++ trades_of x y rs
 
 -- at most two: of what the maker shows, and when all of that is gone of its reserve
-pub data AtMostTwo (shownSize reserve : ℕ) : List ℕ → Type 0 where
-  untraded : AtMostTwo shownSize reserve []
-  ofShown : (k : ℕ) → k ≤ shownSize → AtMostTwo shownSize reserve (k ∷ [])
-  of_both : (k : ℕ) → k ≤ reserve → AtMostTwo shownSize reserve (shownSize ∷ k ∷ [])
+pub data AtMostTwo (shown_size reserve : ℕ) : List ℕ → Type 0 where
+  untraded : AtMostTwo shown_size reserve []
+  of_shown : (k : ℕ) → k ≤ shown_size → AtMostTwo shown_size reserve (k ∷ [])
+  of_both : (k : ℕ) → k ≤ reserve → AtMostTwo shown_size reserve (shown_size ∷ k ∷ [])
 
 -- "in trades of its own": of any message that brings an order, on a sound venue, with the order that rests at place i
 -- rule: (e)2
 abbrev pub TwoTrades : Type 0
-TwoTrades = (v : Venue) → SoundVenue v → (number : ℕ) (message : List ℕ) (o : Regular) → messageOf message ≡ Order o →
-    (i : ℕ) → held (regularAt v i).quantity ≡ true →
-    AtMostTwo (shownSize (regularAt v i)) (regularAt v i).reserve
-    (tradesOf o.id (regularAt v i).id (step v number message).effect.reports)
+TwoTrades = (v : Venue) → SoundVenue v → (number : ℕ) (message : List ℕ) (o : Regular) → message_of message ≡ Order o →
+    (i : ℕ) → held (regular_at v i).quantity ≡ true →
+    AtMostTwo (shown_size (regular_at v i)) (regular_at v i).reserve
+    (trades_of o.id (regular_at v i).id (step v number message).effect.reports)
 
 -- The order among makers ----------------------------------------------------------------------
 
@@ -54,25 +54,25 @@ pub record Fill : Type 0 where
   pub quantity : ℕ
 
 -- what a record says of the trades of a taker at a price, and of all of them, in order
-unfoldable pub fillOf : (taker price : ℕ) → Report → List Fill
-fillOf x p (answer n f m c) = []
-fillOf x p (trade s d price q taker maker) = if eqb taker x && eqb price p then record { maker = maker; quantity = q } ∷ [] else []
-fillOf x p (pair i n q) = []
-fillOf x p (generated i s d price displayed q) = []
-fillOf x p (removed i s d c) = []
-fillOf x p (crossed taker maker n q) = []
-fillOf x p (cancelled i q) = []
-fillOf x p (looked n) = []
+unfoldable pub fill_of : (taker price : ℕ) → Report → List Fill
+fill_of x p (answer n f m c) = []
+fill_of x p (trade s d price q taker maker) = if eqb taker x && eqb price p then record { maker = maker; quantity = q } ∷ [] else []
+fill_of x p (pair i n q) = []
+fill_of x p (generated i s d price displayed q) = []
+fill_of x p (removed i s d c) = []
+fill_of x p (crossed taker maker n q) = []
+fill_of x p (cancelled i q) = []
+fill_of x p (looked n) = []
 
-unfoldable pub fillsOf : (taker price : ℕ) → List Report → List Fill
-fillsOf x p [] = []
-fillsOf x p (r ∷ rs) = fillOf x p r ++ fillsOf x p rs
+unfoldable pub fills_of : (taker price : ℕ) → List Report → List Fill
+fills_of x p [] = []
+fills_of x p (r ∷ rs) = fill_of x p r ++ fills_of x p rs
 
 -- of what is traded: shown size, reserve, the legging order
 pub data SizeKind : Type 0 where
-  atShown : SizeKind
-  atReserve : SizeKind
-  atLegging : SizeKind
+  at_shown : SizeKind
+  at_reserve : SizeKind
+  at_legging : SizeKind
 
 -- "At one price all shown size trades by id, then, in trades of its own, all reserve by id, then the legging order": trades with makers
 -- that stood on side e of series s at price p when the message began, from a kind of size on and there from an id on. That none is passed
@@ -80,26 +80,26 @@ pub data SizeKind : Type 0 where
 pub data InOrder (v : Venue) (s e p : ℕ) : SizeKind → (low : ℕ) → List Fill → Type 0 where
   no_more : {kind : SizeKind} {low : ℕ} → InOrder v s e p kind low []
   -- of what a maker showed, the ids rising
-  ofShown : {low : ℕ} {rest : List Fill} (i k : ℕ) → restsAt s e (regularAt v i) ≡ true → (regularAt v i).price ≡ p →
-      low ≤ (regularAt v i).id → k ≤ shownSize (regularAt v i) → InOrder v s e p atShown (suc (regularAt v i).id) rest →
-      InOrder v s e p atShown low (record { maker = (regularAt v i).id; quantity = k } ∷ rest)
+  of_shown : {low : ℕ} {rest : List Fill} (i k : ℕ) → rests_at s e (regular_at v i) ≡ true → (regular_at v i).price ≡ p →
+      low ≤ (regular_at v i).id → k ≤ shown_size (regular_at v i) → InOrder v s e p at_shown (suc (regular_at v i).id) rest →
+      InOrder v s e p at_shown low (record { maker = (regular_at v i).id; quantity = k } ∷ rest)
   -- from here on no more of shown size
-  thenReserve : {low : ℕ} {rest : List Fill} → InOrder v s e p atReserve 0 rest → InOrder v s e p atShown low rest
+  then_reserve : {low : ℕ} {rest : List Fill} → InOrder v s e p at_reserve 0 rest → InOrder v s e p at_shown low rest
   -- of a maker's reserve, the ids rising from the first one on again
-  ofReserve : {low : ℕ} {rest : List Fill} (i k : ℕ) → restsAt s e (regularAt v i) ≡ true → (regularAt v i).price ≡ p →
-      low ≤ (regularAt v i).id → k ≤ (regularAt v i).reserve → InOrder v s e p atReserve (suc (regularAt v i).id) rest →
-      InOrder v s e p atReserve low (record { maker = (regularAt v i).id; quantity = k } ∷ rest)
+  of_reserve : {low : ℕ} {rest : List Fill} (i k : ℕ) → rests_at s e (regular_at v i) ≡ true → (regular_at v i).price ≡ p →
+      low ≤ (regular_at v i).id → k ≤ (regular_at v i).reserve → InOrder v s e p at_reserve (suc (regular_at v i).id) rest →
+      InOrder v s e p at_reserve low (record { maker = (regular_at v i).id; quantity = k } ∷ rest)
   -- from here on no more of regular orders
-  thenLegging : {low : ℕ} {rest : List Fill} → InOrder v s e p atLegging 0 rest → InOrder v s e p atReserve low rest
+  then_legging : {low : ℕ} {rest : List Fill} → InOrder v s e p at_legging 0 rest → InOrder v s e p at_reserve low rest
   -- the legging order that stood there, once
-  ofLegging : {low : ℕ} (k : ℕ) → (leggingAt v s e).price ≡ p → k ≤ (leggingAt v s e).quantity →
-      InOrder v s e p atLegging low (record { maker = (leggingAt v s e).parent; quantity = k } ∷ [])
+  of_legging : {low : ℕ} (k : ℕ) → (legging_at v s e).price ≡ p → k ≤ (legging_at v s e).quantity →
+      InOrder v s e p at_legging low (record { maker = (legging_at v s e).parent; quantity = k } ∷ [])
 
 -- of any message that brings an order, on a sound venue, at any price
 -- rule: (e)2
 abbrev pub MakersInOrder : Type 0
-MakersInOrder = (v : Venue) → SoundVenue v → (number : ℕ) (message : List ℕ) (o : Regular) → messageOf message ≡ Order o → (p : ℕ) →
-    InOrder v o.series (opposite o.side) p atShown 0 (fillsOf o.id p (step v number message).effect.reports)
+MakersInOrder = (v : Venue) → SoundVenue v → (number : ℕ) (message : List ℕ) (o : Regular) → message_of message ≡ Order o → (p : ℕ) →
+    InOrder v o.series (opposite o.side) p at_shown 0 (fills_of o.id p (step v number message).effect.reports)
 
 -- Complex orders ------------------------------------------------------------------------------
 
@@ -120,20 +120,20 @@ abbrev pub OthersBringNone : Type 0
 OthersBringNone = (m : Message) → ((o : Regular) → m ≢ Order o) → arriving m ≡ 0
 
 -- the contracts of a trade with a maker, whose taker is not the order x: only the regular order that arrives takes, and complex orders
-unfoldable pub takenFrom : (x maker : ℕ) → Report → ℕ
-takenFrom x y (answer n f m c) = 0
-takenFrom x y (trade s d p q taker maker) = if eqb maker y && not (eqb taker x) then q else 0
-takenFrom x y (pair i n q) = 0
-takenFrom x y (generated i s d p displayed q) = 0
-takenFrom x y (removed i s d c) = 0
-takenFrom x y (crossed taker maker n q) = 0
-takenFrom x y (cancelled i q) = 0
-takenFrom x y (looked n) = 0
+unfoldable pub taken_from : (x maker : ℕ) → Report → ℕ
+taken_from x y (answer n f m c) = 0
+taken_from x y (trade s d p q taker maker) = if eqb maker y && not (eqb taker x) then q else 0
+taken_from x y (pair i n q) = 0
+taken_from x y (generated i s d p displayed q) = 0
+taken_from x y (removed i s d c) = 0
+taken_from x y (crossed taker maker n q) = 0
+taken_from x y (cancelled i q) = 0
+taken_from x y (looked n) = 0
 
 -- "A complex order takes shown size only": of any message, on a sound venue, all complex orders together from the order that rests at
 -- place i
 -- rule: (e)6
 abbrev pub ShownOnly : Type 0
-ShownOnly = (v : Venue) → SoundVenue v → (number : ℕ) (message : List ℕ) (i : ℕ) → held (regularAt v i).quantity ≡ true →
-    total (takenFrom (arriving (messageOf message)) (regularAt v i).id) (step v number message).effect.reports
-    ≤ shownSize (regularAt v i)
+ShownOnly = (v : Venue) → SoundVenue v → (number : ℕ) (message : List ℕ) (i : ℕ) → held (regular_at v i).quantity ≡ true →
+    total (taken_from (arriving (message_of message)) (regular_at v i).id) (step v number message).effect.reports
+    ≤ shown_size (regular_at v i)

@@ -1,12 +1,12 @@
 -- Soundness is kept: a sound venue stays sound under every message, and the fresh venue is sound.
 use Rattle.std.specs.Prelude.{◌≡◌, true, ◌≢◌, List, suc, ℕ, length}
 use Rattle.rules.specs.declared.Venue.{Venue}
-use Rattle.rules.specs.Words.{freshVenue}
+use Rattle.rules.specs.Words.{fresh_venue}
 use Rattle.rules.specs.Records.{FourBytes}
-use Rattle.rules.specs.Generation.{generationsOf}
+use Rattle.rules.specs.Generation.{generations_of}
 use Rattle.rules.specs.Step.{step}
 use Rattle.rules.specs.Sound.{follows, sound}
-use Rattle.demands.specs.Demand.{Later, Opening, callUpon, calls, opening}
+use Rattle.demands.specs.Demand.{Later, Opening, call_upon, calls, opening}
 
 -- a venue of the declared type: its arrays have their lengths
 pub record Shaped (v : Venue) : Type 0 where
@@ -16,7 +16,7 @@ pub record Shaped (v : Venue) : Type 0 where
   pub series : length v.series ≡ 8
   pub editions : length v.editions ≡ 32
   pub generations : length v.generations ≡ 8
-  pub twenty : (s : ℕ) → length (generationsOf v s) ≡ 20
+  pub twenty : (s : ℕ) → length (generations_of v s) ≡ 20
 
 pub record SoundVenue (v : Venue) : Type 0 where
   pub shaped : Shaped v
@@ -33,7 +33,7 @@ StaysSound = (v : Venue) (number : ℕ) → FourBytes number → SoundAt number 
     SoundAt (suc number) (step v number message).effect.venue
 
 abbrev pub FreshSound : Type 0
-FreshSound = SoundAt 1 freshVenue
+FreshSound = SoundAt 1 fresh_venue
 
 -- so every venue that the calls return is sound
 abbrev pub AlwaysSound : Type 0
@@ -45,7 +45,7 @@ AlwaysSound = (o : Opening) (cs : List Later) →
 abbrev pub NeverNine : Type 0
 NeverNine = (o : Opening) (cs : List Later) (c : Later) →
     let s = calls (opening o) cs in
-    (callUpon c s.venue s.done).returned.number ≢ 9
+    (call_upon c s.venue s.done).returned.number ≢ 9
 
 -- and the messages done so far, which the next call is given, are a u32
 abbrev pub DoneFits : Type 0

@@ -2,7 +2,7 @@
 -- venue after it.
 use Rattle.std.specs.Prelude.{◌≡◌, ◌≢◌, List, [], ◌∷◌, ℕ, zero, suc, length}
 use Rattle.rules.specs.declared.Venue.{Venue}
-use Rattle.rules.specs.Words.{freshVenue}
+use Rattle.rules.specs.Words.{fresh_venue}
 use Rattle.rules.specs.Records.{Report, answer, trade, pair, generated, removed, crossed, cancelled, looked}
 use Rattle.rules.specs.Refusals.{refusal}
 use Rattle.rules.specs.Step.{mask, filled, step}
@@ -23,13 +23,13 @@ answers (cancelled id quantity ∷ rs) = answers rs
 answers (looked count ∷ rs) = answers rs
 
 -- the venue after a message
-unfoldable pub venueAfter : Venue → (number : ℕ) → (message : List ℕ) → Venue
-venueAfter v number m = (step v number m).effect.venue
+unfoldable pub venue_after : Venue → (number : ℕ) → (message : List ℕ) → Venue
+venue_after v number m = (step v number m).effect.venue
 
 -- a message's answer: its number, its refusal or 0, and "the legging places filled after the message; bit n is place n, and the count is
 -- its ones"
 unfoldable pub answer_of : Venue → (number : ℕ) → (message : List ℕ) → Report
-answer_of v number m = answer number (refusal v m) (mask (venueAfter v number m).legging) (filled (venueAfter v number m).legging)
+answer_of v number m = answer number (refusal v m) (mask (venue_after v number m).legging) (filled (venue_after v number m).legging)
 
 -- "Each message yields one 64, then its effects as they happen."
 pub record AnswersOnce (v : Venue) (number : ℕ) (message : List ℕ) : Type 0 where
@@ -39,7 +39,7 @@ pub record AnswersOnce (v : Venue) (number : ℕ) (message : List ℕ) : Type 0 
 
 -- "64 only"; "Message refusals leave the venue as it was."
 pub record RefusedAlone (v : Venue) (number : ℕ) (message : List ℕ) : Type 0 where
-  pub venue : venueAfter v number message ≡ v
+  pub venue : venue_after v number message ≡ v
   pub reports : (step v number message).effect.reports ≡ answer number (refusal v message) (mask v.legging) (filled v.legging) ∷ []
 
 -- of every venue, sound or not
@@ -50,13 +50,13 @@ pub record OneMessage : Type 0 where
 -- A list of calls -----------------------------------------------------------------------------
 
 -- the answers of messages on v one after another, after n messages, and the venue that they leave
-unfoldable pub answersOf : Venue → (n : ℕ) → (messages : List (List ℕ)) → List Report
-answersOf v n [] = []
-answersOf v n (m ∷ ms) = answer_of v (suc n) m ∷ answersOf (venueAfter v (suc n) m) (suc n) ms
+unfoldable pub answers_of : Venue → (n : ℕ) → (messages : List (List ℕ)) → List Report
+answers_of v n [] = []
+answers_of v n (m ∷ ms) = answer_of v (suc n) m ∷ answers_of (venue_after v (suc n) m) (suc n) ms
 
 unfoldable pub leaves : Venue → (n : ℕ) → (messages : List (List ℕ)) → Venue
 leaves v n [] = v
-leaves v n (m ∷ ms) = leaves (venueAfter v (suc n) m) (suc n) ms
+leaves v n (m ∷ ms) = leaves (venue_after v (suc n) m) (suc n) ms
 
 -- the numbers of answers
 unfoldable pub numbers : List Report → List ℕ
@@ -80,9 +80,9 @@ pub record Truthful (s : Seen) : Type 0 where
   -- "message number u32 from 1": one answer for each message done, numbered without a gap over the calls
   pub numbered : numbers s.reports ≡ from 1 s.done
   -- each has its message's refusal, and the mask and the count of the venue after it
-  pub told : answers s.reports ≡ answersOf freshVenue 0 s.messages
+  pub told : answers s.reports ≡ answers_of fresh_venue 0 s.messages
   pub messages : length s.messages ≡ s.done
-  pub venue : s.venue ≡ leaves freshVenue 0 s.messages
+  pub venue : s.venue ≡ leaves fresh_venue 0 s.messages
 
 abbrev pub Truth : Type 0
 Truth = (o : Opening) (cs : List Later) → Truthful (calls (opening o) cs)

@@ -16,15 +16,15 @@ use Rattle.rules.specs.Records.{sheet}
 use Rattle.rules.specs.Calls.{Call, called, ends}
 use Rattle.places.proofs.Tables.{upto-length}
 use Rattle.engine.specs.declared.Ended.{Ended}
-use Rattle.engine.specs.Hosts.{OnBytes, onBytes}
-use Rattle.layer.specs.Layer.{Lane, Layer, laneAt, getsNine, layerSound, arrive, next, head, headCall, idle, serve, turn}
+use Rattle.engine.specs.Hosts.{OnBytes, on_bytes}
+use Rattle.layer.specs.Layer.{Lane, Layer, lane_at, gets_nine, layer_sound, arrive, next, head, head_call, idle, serve, turn}
 use Rattle.layer.proofs.Ways.{ending, not_done, Did, does, turn_by}
 use Rattle.layer.proofs.PromisesLaws.{gets-nine, each_lane, lane-wait, answered}
 use Rattle.dispatch.specs.declared.TurnReturned.{TurnReturned}
-use Rattle.lanes.specs.Memory.{countAt, places_at, laneSize, last_at, layerSize, lanePart, layerFrom, withPart, joinedBytes, headCalled, advancedBytes}
-use Rattle.lanes.specs.Checks.{layerSoundBut}
-use Rattle.dispatch.specs.Hosts.{replyOf, arriveHeld, TurnReply, idleReturned, turnReplyOf, servedBytes, turnLeaves, turnHeld}
-use Rattle.dispatch.specs.Served.{ended_of, laneServed}
+use Rattle.lanes.specs.Memory.{count_at, places_at, lane_size, last_at, layer_size, lane_part, layer_from, with_part, joined_bytes, head_called, advanced_bytes}
+use Rattle.lanes.specs.Checks.{layer_sound_but}
+use Rattle.dispatch.specs.Hosts.{reply_of, arrive_held, TurnReply, idle_returned, turn_reply_of, served_bytes, turn_leaves, turn_held}
+use Rattle.dispatch.specs.Served.{ended_of, lane_served}
 use Rattle.numbers_writer.proofs.Tables.{part-back}
 use Rattle.lanes.proofs.Figures.{waits-at}
 use Rattle.lanes.proofs.Places.{waits-short}
@@ -35,214 +35,214 @@ use Rattle.dispatch.proofs.Held.{Lends, lends, lends-next}
 
 -- A lane as a slice ---------------------------------------------------------------------------
 
-module _ (m : List ℕ) (v k : ℕ) (e : k ≡ laneSize) where
-  part-is : take k (drop (laneSize * v) m) ≡ lanePart m v
-  unfolding lanePart
-  part-is = ap (λ (n : ℕ). take n (drop (laneSize * v) m)) e
+module _ (m : List ℕ) (v k : ℕ) (e : k ≡ lane_size) where
+  part-is : take k (drop (lane_size * v) m) ≡ lane_part m v
+  unfolding lane_part
+  part-is = ap (λ (n : ℕ). take n (drop (lane_size * v) m)) e
 
-  pub part_count : u8_at (take k (drop (laneSize * v) m)) countAt ≡ u8_at m (laneSize * v + countAt)
+  pub part_count : u8_at (take k (drop (lane_size * v) m)) count_at ≡ u8_at m (lane_size * v + count_at)
   unfolding u8_at
-  part_count = get_or-take k (drop (laneSize * v) m) countAt 0 (omega arith) ∙ get_or-drop (laneSize * v) m countAt 0
+  part_count = get_or-take k (drop (lane_size * v) m) count_at 0 (omega arith) ∙ get_or-drop (lane_size * v) m count_at 0
 
   -- and put back
-  pub anew : (ys : List ℕ) → length ys ≡ laneSize → put_mid (laneSize * v) k m ys ≡ withPart m v ys
-  unfolding withPart
-  anew ys f = part-back m ys (laneSize * v) k (omega arith)
+  pub anew : (ys : List ℕ) → length ys ≡ lane_size → put_mid (lane_size * v) k m ys ≡ with_part m v ys
+  unfolding with_part
+  anew ys f = part-back m ys (lane_size * v) k (omega arith)
 
 -- The layer's four lanes, and its soundness ----------------------------------------------------
 
-four : (m : List ℕ) → length (layerFrom m).lanes ≡ 4
-unfolding layerFrom
+four : (m : List ℕ) → length (layer_from m).lanes ≡ 4
+unfolding layer_from
 four m = upto-length _ 0 4
 
-pub checked-all : (m : List ℕ) (but : ℕ) (r : Bool) → r ≡ layerSoundBut but (layerFrom m) → but ≡ 4 → layerSound (layerFrom m) ≡ r
-checked-all m but r e f = sym (e ∙ ap (λ (b : ℕ). layerSoundBut b (layerFrom m)) f ∙ but-none (layerFrom m) (four m))
+pub checked-all : (m : List ℕ) (but : ℕ) (r : Bool) → r ≡ layer_sound_but but (layer_from m) → but ≡ 4 → layer_sound (layer_from m) ≡ r
+checked-all m but r e f = sym (e ∙ ap (λ (b : ℕ). layer_sound_but b (layer_from m)) f ∙ but-none (layer_from m) (four m))
 
 -- An arrival ----------------------------------------------------------------------------------
 
 module _ (m : List ℕ) (v : ℕ) (b : List ℕ) where
-  pub arrive_none : (length m ≡ layerSize → ⊥) → replyOf 9 m ≡ arriveHeld m v b
-  unfolding arriveHeld
-  arrive_none h = rw (ne_eqb (length m) layerSize h)
+  pub arrive_none : (length m ≡ layer_size → ⊥) → reply_of 9 m ≡ arrive_held m v b
+  unfolding arrive_held
+  arrive_none h = rw (ne_eqb (length m) layer_size h)
 
-  module _ (size : length m ≡ layerSize) where
-    refused : (x : ℕ) → (arrive (layerFrom m) v b).number ≡ x → x ≢ 0 → replyOf x m ≡ arriveHeld m v b
-    unfolding arriveHeld
-    refused x e n = rw (eq-eqb (length m) layerSize size, e, ne_eqb x 0 n)
+  module _ (size : length m ≡ layer_size) where
+    refused : (x : ℕ) → (arrive (layer_from m) v b).number ≡ x → x ≢ 0 → reply_of x m ≡ arrive_held m v b
+    unfolding arrive_held
+    refused x e n = rw (eq-eqb (length m) layer_size size, e, ne_eqb x 0 n)
 
-    pub arrive-unsound : layerSound (layerFrom m) ≡ false → replyOf 9 m ≡ arriveHeld m v b
-    arrive-unsound u = refused 9 ((answered (layerFrom m) v b).nine u) (λ e. omega arith)
+    pub arrive-unsound : layer_sound (layer_from m) ≡ false → reply_of 9 m ≡ arrive_held m v b
+    arrive-unsound u = refused 9 ((answered (layer_from m) v b).nine u) (λ e. omega arith)
 
-    module _ (s : layerSound (layerFrom m) ≡ true) where
-      pub arrive-beyond : 3 < v → replyOf 18 m ≡ arriveHeld m v b
-      arrive-beyond h = refused 18 ((answered (layerFrom m) v b).eighteen s h) (λ e. omega arith)
+    module _ (s : layer_sound (layer_from m) ≡ true) where
+      pub arrive-beyond : 3 < v → reply_of 18 m ≡ arrive_held m v b
+      arrive-beyond h = refused 18 ((answered (layer_from m) v b).eighteen s h) (λ e. omega arith)
 
       module _ (h : v ≤ 3) where
-        pub arrive-full : 8 ≤ u8_at m (laneSize * v + countAt) → replyOf 17 m ≡ arriveHeld m v b
-        arrive-full f = refused 17 ((answered (layerFrom m) v b).seventeen s (omega arith) (inl (omega (arith, waits-at m v (omega arith))))) (λ e. omega arith)
+        pub arrive-full : 8 ≤ u8_at m (lane_size * v + count_at) → reply_of 17 m ≡ arrive_held m v b
+        arrive-full f = refused 17 ((answered (layer_from m) v b).seventeen s (omega arith) (inl (omega (arith, waits-at m v (omega arith))))) (λ e. omega arith)
 
-        pub arrive-long : 32 < length b → replyOf 17 m ≡ arriveHeld m v b
-        arrive-long f = refused 17 ((answered (layerFrom m) v b).seventeen s (omega arith) (inr f)) (λ e. omega arith)
+        pub arrive-long : 32 < length b → reply_of 17 m ≡ arrive_held m v b
+        arrive-long f = refused 17 ((answered (layer_from m) v b).seventeen s (omega arith) (inr f)) (λ e. omega arith)
 
-        pub arrive-taken : u8_at m (laneSize * v + countAt) < 8 → length b ≤ 32 → (k : ℕ) (ys : List ℕ) → k ≡ laneSize → ys ≡ joinedBytes (take k (drop (laneSize * v) m)) b →
-            replyOf 0 (put_mid (laneSize * v) k m ys) ≡ arriveHeld m v b
+        pub arrive-taken : u8_at m (lane_size * v + count_at) < 8 → length b ≤ 32 → (k : ℕ) (ys : List ℕ) → k ≡ lane_size → ys ≡ joined_bytes (take k (drop (lane_size * v) m)) b →
+            reply_of 0 (put_mid (lane_size * v) k m ys) ≡ arrive_held m v b
         arrive-taken f g k ys e p =
-            let x = lends m v size (lane-wait (laneAt (layerFrom m) v) (each_lane (layerFrom m) s v)) (omega arith) in
-            let q : ys ≡ joinedBytes (lanePart m v) b = p ∙ ap (λ (z : List ℕ). joinedBytes z b) (part-is m v k e) in
-            let n : u8_at (lanePart m v) countAt < 8 = (let z = ap (λ (y : List ℕ). u8_at y countAt) (part-is m v k e) in omega (arith, part_count m v k e)) in
-            ap (replyOf 0) (anew m v k e ys (ap length q ∙ joined-size (lanePart m v) b x.size n g) ∙ ap (withPart m v) q) ∙ go
+            let x = lends m v size (lane-wait (lane_at (layer_from m) v) (each_lane (layer_from m) s v)) (omega arith) in
+            let q : ys ≡ joined_bytes (lane_part m v) b = p ∙ ap (λ (z : List ℕ). joined_bytes z b) (part-is m v k e) in
+            let n : u8_at (lane_part m v) count_at < 8 = (let z = ap (λ (y : List ℕ). u8_at y count_at) (part-is m v k e) in omega (arith, part_count m v k e)) in
+            ap (reply_of 0) (anew m v k e ys (ap length q ∙ joined-size (lane_part m v) b x.size n g) ∙ ap (with_part m v) q) ∙ go
           where
-            go : replyOf 0 (withPart m v (joinedBytes (lanePart m v) b)) ≡ arriveHeld m v b
-            go = unfold arriveHeld in (rw (eq-eqb (length m) layerSize size, (answered (layerFrom m) v b).taken s (omega arith) (omega (arith, waits-at m v (omega arith))) g))
+            go : reply_of 0 (with_part m v (joined_bytes (lane_part m v) b)) ≡ arrive_held m v b
+            go = unfold arrive_held in (rw (eq-eqb (length m) layer_size size, (answered (layer_from m) v b).taken s (omega arith) (omega (arith, waits-at m v (omega arith))) g))
 
 -- A turn --------------------------------------------------------------------------------------
 
-pub turn-none : (m : List ℕ) (room : ℕ) (z : List ℕ) → (length m ≡ layerSize → ⊥) → z ≡ sheet room [] → turnReplyOf (idleReturned 9) m z ≡ turnHeld m room
-unfolding turnHeld
-turn-none m room z h e = ap (turnReplyOf (idleReturned 9) m) e ∙ rw (ne_eqb (length m) layerSize h)
+pub turn-none : (m : List ℕ) (room : ℕ) (z : List ℕ) → (length m ≡ layer_size → ⊥) → z ≡ sheet room [] → turn_reply_of (idle_returned 9) m z ≡ turn_held m room
+unfolding turn_held
+turn-none m room z h e = ap (turn_reply_of (idle_returned 9) m) e ∙ rw (ne_eqb (length m) layer_size h)
 
-module _ (m : List ℕ) (size : length m ≡ layerSize) (room : ℕ) (z : List ℕ) where
+module _ (m : List ℕ) (size : length m ≡ layer_size) (room : ℕ) (z : List ℕ) where
   abbrev l : Layer
-  l = layerFrom m
+  l = layer_from m
 
-  by : (r : TurnReturned) (x : List ℕ) → turnReplyOf r x z ≡ turnLeaves m room (turn l room) → turnReplyOf r x z ≡ turnHeld m room
-  unfolding turnHeld
-  by r x e = rw (eq-eqb (length m) layerSize size) e
+  by : (r : TurnReturned) (x : List ℕ) → turn_reply_of r x z ≡ turn_leaves m room (turn l room) → turn_reply_of r x z ≡ turn_held m room
+  unfolding turn_held
+  by r x e = rw (eq-eqb (length m) layer_size size) e
 
-  pub turn-unsound : layerSound l ≡ false → z ≡ sheet room [] → turnReplyOf (idleReturned 9) m z ≡ turnHeld m room
-  unfolding turnLeaves idle
+  pub turn-unsound : layer_sound l ≡ false → z ≡ sheet room [] → turn_reply_of (idle_returned 9) m z ≡ turn_held m room
+  unfolding turn_leaves idle
   turn-unsound u e =
-      by (idleReturned 9) m
-      (turn_by (λ t. turnReplyOf (idleReturned 9) m z ≡ turnLeaves m room t) l room (λ _. ap (turnReplyOf (idleReturned 9) m) e)
+      by (idle_returned 9) m
+      (turn_by (λ t. turn_reply_of (idle_returned 9) m z ≡ turn_leaves m room t) l room (λ _. ap (turn_reply_of (idle_returned 9) m) e)
       (λ s _. absurd (true≢false (sym s ∙ u))) (λ s _ _. absurd (true≢false (sym s ∙ u))) (λ s _ _. absurd (true≢false (sym s ∙ u))))
 
   -- on a sound layer
-  sound-by : layerSound l ≡ true → (r : TurnReturned) (x : List ℕ) → (next l ≡ 4 → turnReplyOf r x z ≡ turnLeaves m room (idle l room 0)) →
-      (next l ≢ 4 → (headCall (laneAt l (next l)) room).returned.done ≡ 0 → turnReplyOf r x z ≡ turnLeaves m room (idle l room (headCall (laneAt l (next l)) room).returned.number)) →
-      (next l ≢ 4 → (headCall (laneAt l (next l)) room).returned.done ≢ 0 → turnReplyOf r x z ≡ turnLeaves m room (serve l (next l) (headCall (laneAt l (next l)) room))) →
-      turnReplyOf r x z ≡ turnHeld m room
+  sound-by : layer_sound l ≡ true → (r : TurnReturned) (x : List ℕ) → (next l ≡ 4 → turn_reply_of r x z ≡ turn_leaves m room (idle l room 0)) →
+      (next l ≢ 4 → (head_call (lane_at l (next l)) room).returned.done ≡ 0 → turn_reply_of r x z ≡ turn_leaves m room (idle l room (head_call (lane_at l (next l)) room).returned.number)) →
+      (next l ≢ 4 → (head_call (lane_at l (next l)) room).returned.done ≢ 0 → turn_reply_of r x z ≡ turn_leaves m room (serve l (next l) (head_call (lane_at l (next l)) room))) →
+      turn_reply_of r x z ≡ turn_held m room
   sound-by s r x a b c =
-      by r x (turn_by (λ t. turnReplyOf r x z ≡ turnLeaves m room t) l room (λ u. absurd (true≢false (sym s ∙ u))) (λ _. a) (λ _. b) (λ _. c))
+      by r x (turn_by (λ t. turn_reply_of r x z ≡ turn_leaves m room t) l room (λ u. absurd (true≢false (sym s ∙ u))) (λ _. a) (λ _. b) (λ _. c))
 
-  pub turn-idle : layerSound l ≡ true → next l ≡ 4 → z ≡ sheet room [] → turnReplyOf (idleReturned 0) m z ≡ turnHeld m room
-  unfolding turnLeaves idle
-  turn-idle s n e = sound-by s (idleReturned 0) m (λ _. ap (turnReplyOf (idleReturned 0) m) e) (λ o _. absurd (o n)) (λ o _. absurd (o n))
+  pub turn-idle : layer_sound l ≡ true → next l ≡ 4 → z ≡ sheet room [] → turn_reply_of (idle_returned 0) m z ≡ turn_held m room
+  unfolding turn_leaves idle
+  turn-idle s n e = sound-by s (idle_returned 0) m (λ _. ap (turn_reply_of (idle_returned 0) m) e) (λ o _. absurd (o n)) (λ o _. absurd (o n))
 
 -- venue v is to be served, and all else was checked
 pub record Serves (m : List ℕ) (v : ℕ) : Type 0 where
-  pub size : length m ≡ layerSize
-  pub checked : layerSoundBut v (layerFrom m) ≡ true
-  pub here : v ≡ next (layerFrom m)
+  pub size : length m ≡ layer_size
+  pub checked : layer_sound_but v (layer_from m) ≡ true
+  pub here : v ≡ next (layer_from m)
   pub some : v ≢ 4
 
 -- its lane, as a slice
 module _ (m : List ℕ) (v : ℕ) (x : Serves m v) where
-  other : next (layerFrom m) ≢ 4
+  other : next (layer_from m) ≢ 4
   other q = x.some (x.here ∙ q)
 
-  lent-next : (next (layerFrom m) < 4) × Lends m (next (layerFrom m)) × (0 < u8_at (lanePart m (next (layerFrom m))) countAt)
-  lent-next = lends-next m x.size (but-wait v (layerFrom m) x.checked) other
+  lent-next : (next (layer_from m) < 4) × Lends m (next (layer_from m)) × (0 < u8_at (lane_part m (next (layer_from m))) count_at)
+  lent-next = lends-next m x.size (but-wait v (layer_from m) x.checked) other
 
   pub small : v < 4
   small = let h = lent-next.0 in let e = x.here in omega arith
 
   -- where its venue gets no 9 the layer is sound
-  sound-with : getsNine (laneAt (layerFrom m) (next (layerFrom m))) ≡ false → layerSound (layerFrom m) ≡ true
-  sound-with g = but-sound v (layerFrom m) x.checked (four m) (λ w _ e. ap (λ (i : ℕ). getsNine (laneAt (layerFrom m) i)) (e ∙ x.here) ∙ g)
+  sound-with : gets_nine (lane_at (layer_from m) (next (layer_from m))) ≡ false → layer_sound (layer_from m) ≡ true
+  sound-with g = but-sound v (layer_from m) x.checked (four m) (λ w _ e. ap (λ (i : ℕ). gets_nine (lane_at (layer_from m) i)) (e ∙ x.here) ∙ g)
 
-  module _ (k : ℕ) (e : k ≡ laneSize) where
+  module _ (k : ℕ) (e : k ≡ lane_size) where
     abbrev lent : List ℕ
-    lent = take k (drop (laneSize * v) m)
+    lent = take k (drop (lane_size * v) m)
 
-    lent_is : lent ≡ lanePart m (next (layerFrom m))
-    lent_is = part-is m v k e ∙ ap (lanePart m) x.here
+    lent_is : lent ≡ lane_part m (next (layer_from m))
+    lent_is = part-is m v k e ∙ ap (lane_part m) x.here
 
-    lends-it : Lends m (next (layerFrom m))
+    lends-it : Lends m (next (layer_from m))
     lends-it = lent-next.1
 
-    pub lent-size : length lent ≡ laneSize
+    pub lent-size : length lent ≡ lane_size
     lent-size = ap length lent_is ∙ lends-it.size
 
-    pub lent-some : 0 < u8_at lent countAt
+    pub lent-some : 0 < u8_at lent count_at
     lent-some = rw lent_is lent-next.2
 
-    pub lent-few : u8_at lent countAt ≤ 8
+    pub lent-few : u8_at lent count_at ≤ 8
     lent-few = rw lent_is lends-it.few
 
     pub lent-short : u8_at lent places_at ≤ 32
-    lent-short = rw lent_is (waits-short (lanePart m (next (layerFrom m))) 0 lends-it.fine lent-next.2)
+    lent-short = rw lent_is (waits-short (lane_part m (next (layer_from m))) 0 lends-it.fine lent-next.2)
 
     -- the call with the head of its wait
-    module _ (room : ℕ) (r : Ended) (ys z : List ℕ) (call : onBytes r ys z ≡ laneServed lent room) where
+    module _ (room : ℕ) (r : Ended) (ys z : List ℕ) (call : on_bytes r ys z ≡ lane_served lent room) where
       abbrev c : Lane
-      c = laneAt (layerFrom m) (next (layerFrom m))
+      c = lane_at (layer_from m) (next (layer_from m))
 
-      is : headCalled lent room ≡ headCall c room
+      is : head_called lent room ≡ head_call c room
       is =
-          ap (λ (y : List ℕ). headCalled y room) lent_is
-          ∙ sym (ap (λ (d : Lane). headCall d room) lends-it.at ∙ head-called (lanePart m (next (layerFrom m))) room lent-next.2)
+          ap (λ (y : List ℕ). head_called y room) lent_is
+          ∙ sym (ap (λ (d : Lane). head_call d room) lends-it.at ∙ head-called (lane_part m (next (layer_from m))) room lent-next.2)
 
-      ended_is : r ≡ ended_of (headCall c room)
-      unfolding laneServed
+      ended_is : r ≡ ended_of (head_call c room)
+      unfolding lane_served
       ended_is = ap (λ (y : OnBytes). y.ended) call ∙ ap ended_of is
 
-      report-is : z ≡ (headCall c room).report
-      unfolding laneServed
+      report-is : z ≡ (head_call c room).report
+      unfolding lane_served
       report-is = ap (λ (y : OnBytes). y.report) call ∙ ap (λ (y : Call). y.report) is
 
-      lane-is : ys ≡ (if eqb (headCall c room).returned.done 0 then lent else advancedBytes lent (headCall c room).returned.number (headCall c room).returned.venue)
-      unfolding laneServed
+      lane-is : ys ≡ (if eqb (head_call c room).returned.done 0 then lent else advanced_bytes lent (head_call c room).returned.number (head_call c room).returned.venue)
+      unfolding lane_served
       lane-is =
           ap (λ (y : OnBytes). y.venue) call
-          ∙ ap (λ (y : Call). if eqb y.returned.done 0 then lent else advancedBytes lent y.returned.number y.returned.venue) is
+          ∙ ap (λ (y : Call). if eqb y.returned.done 0 then lent else advanced_bytes lent y.returned.number y.returned.venue) is
 
-      pub turn-ended : r.done ≡ 0 → turnReplyOf (idleReturned r.number) (put_mid (laneSize * v) k m ys) z ≡ turnHeld m room
-      unfolding turnLeaves idle headCall called ends
+      pub turn-ended : r.done ≡ 0 → turn_reply_of (idle_returned r.number) (put_mid (lane_size * v) k m ys) z ≡ turn_held m room
+      unfolding turn_leaves idle head_call called ends
       turn-ended d =
-          let f : (headCall c room).returned.done ≡ 0 = sym (ap (λ (y : Ended). y.done) ended_is) ∙ d in
-          let number : r.number ≡ (headCall c room).returned.number = ap (λ (y : Ended). y.number) ended_is in
+          let f : (head_call c room).returned.done ≡ 0 = sym (ap (λ (y : Ended). y.done) ended_is) ∙ d in
+          let number : r.number ≡ (head_call c room).returned.number = ap (λ (y : Ended). y.number) ended_is in
           let g : z ≡ sheet room [] =
-          report-is ∙ ap (λ (y : Call). y.report) (not_done c.venue c.done room (headCall c room) (ending c.venue c.done room (head c)) f) in
-          let same : ys ≡ lent = lane-is ∙ rw (eq-eqb (headCall c room).returned.done 0 f) in
-          let back : put_mid (laneSize * v) k m ys ≡ m = ap (put_mid (laneSize * v) k m) same ∙ put_same (laneSize * v) k m in
-          ap (λ (b : List ℕ). turnReplyOf (idleReturned r.number) b z) back
-          ∙ by m x.size room z (idleReturned r.number) m
-          (turn_by (λ t. turnReplyOf (idleReturned r.number) m z ≡ turnLeaves m room t) (layerFrom m) room
-          (λ u. ap₂ (λ (n : ℕ) (y : List ℕ). turnReplyOf (idleReturned n) m y) (number ∙ nine u (getsNine c) refl) g)
+          report-is ∙ ap (λ (y : Call). y.report) (not_done c.venue c.done room (head_call c room) (ending c.venue c.done room (head c)) f) in
+          let same : ys ≡ lent = lane-is ∙ rw (eq-eqb (head_call c room).returned.done 0 f) in
+          let back : put_mid (lane_size * v) k m ys ≡ m = ap (put_mid (lane_size * v) k m) same ∙ put_same (lane_size * v) k m in
+          ap (λ (b : List ℕ). turn_reply_of (idle_returned r.number) b z) back
+          ∙ by m x.size room z (idle_returned r.number) m
+          (turn_by (λ t. turn_reply_of (idle_returned r.number) m z ≡ turn_leaves m room t) (layer_from m) room
+          (λ u. ap₂ (λ (n : ℕ) (y : List ℕ). turn_reply_of (idle_returned n) m y) (number ∙ nine u (gets_nine c) refl) g)
           (λ _ q. absurd (other q))
-          (λ _ _ _. ap₂ (λ (n : ℕ) (y : List ℕ). turnReplyOf (idleReturned n) m y) number g)
+          (λ _ _ _. ap₂ (λ (n : ℕ) (y : List ℕ). turn_reply_of (idle_returned n) m y) number g)
           (λ _ _ n. absurd (n f)))
         where
           -- of an unsound layer it is the venue that got the 9
-          nine : layerSound (layerFrom m) ≡ false → (b : Bool) → getsNine c ≡ b → (headCall c room).returned.number ≡ 9
-          nine u true e = eqb-true (headCall c room).returned.number 9 (sym (gets-nine c room (head c)) ∙ e)
+          nine : layer_sound (layer_from m) ≡ false → (b : Bool) → gets_nine c ≡ b → (head_call c room).returned.number ≡ 9
+          nine u true e = eqb-true (head_call c room).returned.number 9 (sym (gets-nine c room (head c)) ∙ e)
           nine u false e = absurd (true≢false (sym (sound-with e) ∙ u))
 
-      pub turn-serves : r.done ≢ 0 → turnReplyOf (record { number = r.number; done = r.done; written = r.written; served = v }) (set (put_mid (laneSize * v) k m ys) last_at v) z ≡ turnHeld m room
-      unfolding turnLeaves serve servedBytes headCall
+      pub turn-serves : r.done ≢ 0 → turn_reply_of (record { number = r.number; done = r.done; written = r.written; served = v }) (set (put_mid (lane_size * v) k m ys) last_at v) z ≡ turn_held m room
+      unfolding turn_leaves serve served_bytes head_call
       turn-serves d =
-          let w : ℕ = next (layerFrom m) in
-          let part : List ℕ = lanePart m w in
-          let f : (headCall c room).returned.done ≢ 0 = λ n. d (ap (λ (y : Ended). y.done) ended_is ∙ n) in
-          let s : layerSound (layerFrom m) ≡ true = sound-with (gets-nine c room (head c) ∙ ne_eqb (headCall c room).returned.number 9 (did f).not9) in
-          let a : headCall c room ≡ headCalled part room = sym is ∙ ap (λ (y : List ℕ). headCalled y room) lent_is in
-          let g : (headCalled part room).returned.done ≢ 0 = λ n. f (ap (λ (y : Call). y.returned.done) a ∙ n) in
-          let q : ys ≡ advancedBytes part (headCalled part room).returned.number (headCalled part room).returned.venue =
-          lane-is ∙ rw (ne_eqb (headCall c room).returned.done 0 f)
-          (ap (λ (y : List ℕ). advancedBytes y (headCall c room).returned.number (headCall c room).returned.venue) lent_is
-          ∙ ap (λ (y : Call). advancedBytes part y.returned.number y.returned.venue) a) in
+          let w : ℕ = next (layer_from m) in
+          let part : List ℕ = lane_part m w in
+          let f : (head_call c room).returned.done ≢ 0 = λ n. d (ap (λ (y : Ended). y.done) ended_is ∙ n) in
+          let s : layer_sound (layer_from m) ≡ true = sound-with (gets-nine c room (head c) ∙ ne_eqb (head_call c room).returned.number 9 (did f).not9) in
+          let a : head_call c room ≡ head_called part room = sym is ∙ ap (λ (y : List ℕ). head_called y room) lent_is in
+          let g : (head_called part room).returned.done ≢ 0 = λ n. f (ap (λ (y : Call). y.returned.done) a ∙ n) in
+          let q : ys ≡ advanced_bytes part (head_called part room).returned.number (head_called part room).returned.venue =
+          lane-is ∙ rw (ne_eqb (head_call c room).returned.done 0 f)
+          (ap (λ (y : List ℕ). advanced_bytes y (head_call c room).returned.number (head_call c room).returned.venue) lent_is
+          ∙ ap (λ (y : Call). advanced_bytes part y.returned.number y.returned.venue) a) in
           let h = lends-it in
-          let fits : length ys ≡ laneSize = ap length q ∙ advanced-size part room h.size h.fine lent-next.2 h.few g in
-          let memory : set (put_mid (laneSize * v) k m ys) last_at v ≡ servedBytes m w room =
-          ap (λ (y : List ℕ). set y last_at v) (anew m v k e ys fits ∙ ap (withPart m v) q)
-          ∙ ap (λ (i : ℕ). set (withPart m i (advancedBytes part (headCalled part room).returned.number (headCalled part room).returned.venue)) last_at i) x.here in
-          let pick : (if eqb w 4 then m else servedBytes m w room) ≡ servedBytes m w room = rw (ne_eqb w 4 other) in
+          let fits : length ys ≡ lane_size = ap length q ∙ advanced-size part room h.size h.fine lent-next.2 h.few g in
+          let memory : set (put_mid (lane_size * v) k m ys) last_at v ≡ served_bytes m w room =
+          ap (λ (y : List ℕ). set y last_at v) (anew m v k e ys fits ∙ ap (with_part m v) q)
+          ∙ ap (λ (i : ℕ). set (with_part m i (advanced_bytes part (head_called part room).returned.number (head_called part room).returned.venue)) last_at i) x.here in
+          let pick : (if eqb w 4 then m else served_bytes m w room) ≡ served_bytes m w room = rw (ne_eqb w 4 other) in
           sound-by m x.size room z s _ _ (λ o. absurd (other o)) (λ _ n. absurd (f n))
-          (λ _ _. ap₂ (λ (y : Ended) (t : List ℕ). F y v (set (put_mid (laneSize * v) k m ys) last_at v) t) ended_is report-is
-          ∙ ap₂ (λ (i : ℕ) (b : List ℕ). F (ended_of (headCall c room)) i b (headCall c room).report) x.here (memory ∙ sym pick))
+          (λ _ _. ap₂ (λ (y : Ended) (t : List ℕ). F y v (set (put_mid (lane_size * v) k m ys) last_at v) t) ended_is report-is
+          ∙ ap₂ (λ (i : ℕ) (b : List ℕ). F (ended_of (head_call c room)) i b (head_call c room).report) x.here (memory ∙ sym pick))
         where
-          did : (headCall c room).returned.done ≢ 0 → Did c.venue c.done room (headCall c room)
-          did n = unfold headCall in (does c.venue c.done room _ (ending c.venue c.done room (head c)) n)
+          did : (head_call c room).returned.done ≢ 0 → Did c.venue c.done room (head_call c room)
+          did n = unfold head_call in (does c.venue c.done room _ (ending c.venue c.done room (head c)) n)
 
           F : Ended → ℕ → List ℕ → List ℕ → TurnReply
-          F y i b t = turnReplyOf (record { number = y.number; done = y.done; written = y.written; served = i }) b t
+          F y i b t = turn_reply_of (record { number = y.number; done = y.done; written = y.written; served = i }) b t

@@ -13,43 +13,43 @@ use Rattle.records.specs.Seen.{Seen, seen, pasted}
 use Rattle.records.proofs.SeenLaws.{plus-in}
 use Rattle.venue_bytes.specs.Held.{rows}
 use Rattle.venue_bytes.proofs.Rows.{Written, written_all, written-room, written_next}
-use Rattle.layer.specs.Layer.{Lane, freshLane, freshLayer}
-use Rattle.lanes.specs.Memory.{laneSize, last_at, layerSize, laneBytes, layerBytes}
-use Rattle.dispatch.specs.Hosts.{replyOf, freshHeld}
+use Rattle.layer.specs.Layer.{Lane, fresh_lane, fresh_layer}
+use Rattle.lanes.specs.Memory.{lane_size, last_at, layer_size, lane_bytes, layer_bytes}
+use Rattle.dispatch.specs.Hosts.{reply_of, fresh_held}
 use Rattle.numbers_writer.proofs.Tables.{part-back}
 use Rattle.lanes.proofs.Fresh.{fresh-size, fresh-whole, lanes-length}
 
 -- each lane is the fresh one
 abbrev pub fresh_row : Lane → List ℕ
-fresh_row c = laneBytes freshLane
+fresh_row c = lane_bytes fresh_lane
 
 abbrev pub four : List Lane
-four = replicate 4 freshLane
+four = replicate 4 fresh_lane
 
-pub fresh-even : (c : Lane) → length (fresh_row c) ≡ laneSize
+pub fresh-even : (c : Lane) → length (fresh_row c) ≡ lane_size
 fresh-even c = fresh-size
 
-module _ (m₀ : List ℕ) (size : length m₀ ≡ layerSize) (m : List ℕ) (i : ℕ) (w : Written fresh_row 0 four m₀ m i) where
+module _ (m₀ : List ℕ) (size : length m₀ ≡ layer_size) (m : List ℕ) (i : ℕ) (w : Written fresh_row 0 four m₀ m i) where
   pub fresh-room : length m ≡ length m₀
-  fresh-room = written-room fresh_row laneSize fresh-even 0 four m₀ (omega arith) m i w
+  fresh-room = written-room fresh_row lane_size fresh-even 0 four m₀ (omega arith) m i w
 
-  pub fresh-next : (ys : List ℕ) (k : ℕ) → i < 4 → k ≡ laneSize → ys ≡ laneBytes freshLane → Written fresh_row 0 four m₀ (put_mid (laneSize * i) k m ys) (i + 1)
+  pub fresh-next : (ys : List ℕ) (k : ℕ) → i < 4 → k ≡ lane_size → ys ≡ lane_bytes fresh_lane → Written fresh_row 0 four m₀ (put_mid (lane_size * i) k m ys) (i + 1)
   unfolding seen
   fresh-next ys k h e p =
-      let n : length ys ≡ laneSize = ap length p ∙ fresh-size in
+      let n : length ys ≡ lane_size = ap length p ∙ fresh-size in
       let r = fresh-room in
-      written_next fresh_row laneSize fresh-even 0 four m₀ (omega arith) m i w freshLane (get_or four i freshLane) (laneSize * i) _ h refl (omega arith)
-      (part-back m ys (laneSize * i) k (omega arith) ∙ ap (pasted m (laneSize * i)) p ∙ sym (ap (λ (x : Seen). x.memory) (plus-in m (laneBytes freshLane) (laneSize * i) (omega (arith, fresh-size)))))
+      written_next fresh_row lane_size fresh-even 0 four m₀ (omega arith) m i w fresh_lane (get_or four i fresh_lane) (lane_size * i) _ h refl (omega arith)
+      (part-back m ys (lane_size * i) k (omega arith) ∙ ap (pasted m (lane_size * i)) p ∙ sym (ap (λ (x : Seen). x.memory) (plus-in m (lane_bytes fresh_lane) (lane_size * i) (omega (arith, fresh-size)))))
 
-  pub fresh-all : 4 ≤ i → replyOf 0 (set m last_at 3) ≡ freshHeld m₀
-  unfolding freshHeld layerBytes freshLayer rows bytes pasted
-  fresh-all h = rw (eq-eqb (length m₀) layerSize size) (ap (replyOf 0) go)
+  pub fresh-all : 4 ≤ i → reply_of 0 (set m last_at 3) ≡ fresh_held m₀
+  unfolding fresh_held layer_bytes fresh_layer rows bytes pasted
+  fresh-all h = rw (eq-eqb (length m₀) layer_size size) (ap (reply_of 0) go)
     where
       R : List ℕ
-      R = rows laneBytes four
+      R = rows lane_bytes four
 
       n : length R ≡ last_at
-      n = unfold freshLayer in (lanes-length four fresh-whole)
+      n = unfold fresh_layer in (lanes-length four fresh-whole)
 
       is : m ≡ R ++ drop (0 + length R) m₀
       is = unfold rows pasted in (written_all fresh_row 0 four m₀ m i w h)
@@ -62,6 +62,6 @@ module _ (m₀ : List ℕ) (size : length m₀ ≡ layerSize) (m : List ℕ) (i 
           ∙ ap (λ (y : List ℕ). get_or m₀ last_at 0 ∷ y) (lib.ListN.drop_of_length-le m₀ {i = suc last_at} (omega arith)) in
           ap (λ (y : List ℕ). set y last_at 3) (is ∙ ap (λ (y : List ℕ). R ++ y) rest) ∙ set_at R (get_or m₀ last_at 0) [] 3 last_at n
 
-pub fresh-none : (m : List ℕ) → (length m ≡ layerSize → ⊥) → replyOf 9 m ≡ freshHeld m
-unfolding freshHeld
-fresh-none m h = rw (ne_eqb (length m) layerSize h)
+pub fresh-none : (m : List ℕ) → (length m ≡ layer_size → ⊥) → reply_of 9 m ≡ fresh_held m
+unfolding fresh_held
+fresh-none m h = rw (ne_eqb (length m) layer_size h)

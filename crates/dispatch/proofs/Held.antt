@@ -13,14 +13,14 @@ use Rattle.rules.specs.Bytes.{u8_at}
 use Rattle.rules.specs.Calls.{Call}
 use Rattle.rules.proofs.Tests.{and_l}
 use Rattle.places.proofs.Tables.{upto-length}
-use Rattle.layer.specs.Layer.{Lane, Layer, Asked, arrival, turning, freshLayer, laneAt, withLane, waitSound, layerSound}
-use Rattle.layer.specs.Layer.{joins, arrive, waiting, next, headCall, idle, advanced, serve, turn, after, afterAll}
+use Rattle.layer.specs.Layer.{Lane, Layer, Asked, arrival, turning, fresh_layer, lane_at, with_lane, wait_sound, layer_sound}
+use Rattle.layer.specs.Layer.{joins, arrive, waiting, next, head_call, idle, advanced, serve, turn, after, after_all}
 use Rattle.layer.proofs.Ways.{Waits, arrive-by, turn_by}
 use Rattle.layer.proofs.Lanes.{next-some}
 use Rattle.layer.proofs.PromisesLaws.{each_lane, lane-wait}
 use Rattle.lanes.specs.Canonical.{Canonical}
-use Rattle.lanes.specs.Memory.{countAt, laneSize, last_at, layerSize, laneFrom, lanePart, lane_of, layerFrom, layerBytes, withPart, joinedBytes, headCalled, advancedBytes}
-use Rattle.dispatch.specs.Hosts.{freshHeld, arriveHeld, servedBytes, turnLeaves, turnHeld, memoryAfter, memoryAfterAll, Held, LeftCanonical}
+use Rattle.lanes.specs.Memory.{count_at, lane_size, last_at, layer_size, lane_from, lane_part, lane_of, layer_from, layer_bytes, with_part, joined_bytes, head_called, advanced_bytes}
+use Rattle.dispatch.specs.Hosts.{fresh_held, arrive_held, served_bytes, turn_leaves, turn_held, memory_after, memory_after_all, Held, LeftCanonical}
 use Rattle.lanes.proofs.Bytes.{part_length}
 use Rattle.lanes.proofs.Figures.{lane-of}
 use Rattle.lanes.proofs.Lent.{with_size, lane-anew, last-anew, canonical-anew, canonical-last}
@@ -32,148 +32,148 @@ use Rattle.lanes.proofs.BytesBack.{equal-bytes}
 -- A lane with its figures in range -------------------------------------------------------------
 
 pub record Lends (m : List ℕ) (v : ℕ) : Type 0 where
-  pub at : laneAt (layerFrom m) v ≡ laneFrom (lanePart m v)
-  pub size : length (lanePart m v) ≡ laneSize
-  pub fine : waitSound (laneFrom (lanePart m v)).wait ≡ true
-  pub few : u8_at (lanePart m v) countAt ≤ 8
+  pub at : lane_at (layer_from m) v ≡ lane_from (lane_part m v)
+  pub size : length (lane_part m v) ≡ lane_size
+  pub fine : wait_sound (lane_from (lane_part m v)).wait ≡ true
+  pub few : u8_at (lane_part m v) count_at ≤ 8
 
-count-is : (bs : List ℕ) → length (laneFrom bs).wait ≡ u8_at bs countAt
-unfolding laneFrom
-count-is bs = upto-length _ 0 (u8_at bs countAt)
+count-is : (bs : List ℕ) → length (lane_from bs).wait ≡ u8_at bs count_at
+unfolding lane_from
+count-is bs = upto-length _ 0 (u8_at bs count_at)
 
-pub lends : (m : List ℕ) (v : ℕ) → length m ≡ layerSize → waitSound (laneAt (layerFrom m) v).wait ≡ true → v < 4 → Lends m v
-unfolding lanePart
+pub lends : (m : List ℕ) (v : ℕ) → length m ≡ layer_size → wait_sound (lane_at (layer_from m) v).wait ≡ true → v < 4 → Lends m v
+unfolding lane_part
 lends m v size s h =
-    let e : laneAt (layerFrom m) v ≡ laneFrom (lanePart m v) = unfold lane_of in (lane-of m v h) in
-    let w : waitSound (laneFrom (lanePart m v)).wait ≡ true = ap (λ (c : Lane). waitSound c.wait) (sym e) ∙ s in
+    let e : lane_at (layer_from m) v ≡ lane_from (lane_part m v) = unfold lane_of in (lane-of m v h) in
+    let w : wait_sound (lane_from (lane_part m v)).wait ≡ true = ap (λ (c : Lane). wait_sound c.wait) (sym e) ∙ s in
     record {
       at = e;
-      size = part_length m (laneSize * v) laneSize (omega arith);
+      size = part_length m (lane_size * v) lane_size (omega arith);
       fine = w;
-      few = (let k = few w in omega (arith, count-is (lanePart m v)));
+      few = (let k = few w in omega (arith, count-is (lane_part m v)));
     }
   where
-    few : waitSound (laneFrom (lanePart m v)).wait ≡ true → length (laneFrom (lanePart m v)).wait ≤ 8
-    few w = unfold waitSound in
-        (leb-true (length (laneFrom (lanePart m v)).wait) 8
-        (and_l (leb (length (laneFrom (lanePart m v)).wait) 8) (all (λ (x : List ℕ). leb (length x) 32) (laneFrom (lanePart m v)).wait) w))
+    few : wait_sound (lane_from (lane_part m v)).wait ≡ true → length (lane_from (lane_part m v)).wait ≤ 8
+    few w = unfold wait_sound in
+        (leb-true (length (lane_from (lane_part m v)).wait) 8
+        (and_l (leb (length (lane_from (lane_part m v)).wait) 8) (all (λ (x : List ℕ). leb (length x) 32) (lane_from (lane_part m v)).wait) w))
 
 -- the lane of the venue that a turn serves
-pub lends-next : (m : List ℕ) → length m ≡ layerSize → ((v : ℕ) → v < 4 → waitSound (laneAt (layerFrom m) v).wait ≡ true) → next (layerFrom m) ≢ 4 →
-    (next (layerFrom m) < 4) × Lends m (next (layerFrom m)) × (0 < u8_at (lanePart m (next (layerFrom m))) countAt)
+pub lends-next : (m : List ℕ) → length m ≡ layer_size → ((v : ℕ) → v < 4 → wait_sound (lane_at (layer_from m) v).wait ≡ true) → next (layer_from m) ≢ 4 →
+    (next (layer_from m) < 4) × Lends m (next (layer_from m)) × (0 < u8_at (lane_part m (next (layer_from m))) count_at)
 lends-next m size s n =
-    let v : ℕ = next (layerFrom m) in
-    let k = next-some (layerFrom m) n in
+    let v : ℕ = next (layer_from m) in
+    let k = next-some (layer_from m) n in
     let x = lends m v size (s v k.0) k.0 in
-    (k.0, x, go (lanePart m v) (ap waiting (sym x.at) ∙ k.1))
+    (k.0, x, go (lane_part m v) (ap waiting (sym x.at) ∙ k.1))
   where
-    go : (bs : List ℕ) → waiting (laneFrom bs) ≡ true → 0 < u8_at bs countAt
+    go : (bs : List ℕ) → waiting (lane_from bs) ≡ true → 0 < u8_at bs count_at
     go bs e = unfold waiting in (
-        let z = eqb-false (length (laneFrom bs).wait) 0 (not-true (eqb (length (laneFrom bs).wait) 0) e) in omega (arith, count-is bs)
+        let z = eqb-false (length (lane_from bs).wait) 0 (not-true (eqb (length (lane_from bs).wait) 0) e) in omega (arith, count-is bs)
         )
 
 -- A memory after a call -----------------------------------------------------------------------
 
 pub record Holds (before memory : List ℕ) (l : Layer) : Type 0 where
-  pub is : layerFrom memory ≡ l
-  pub size : length memory ≡ layerSize
+  pub is : layer_from memory ≡ l
+  pub size : length memory ≡ layer_size
   pub canonical : Canonical before → Canonical memory
 
-module _ (m : List ℕ) (size : length m ≡ layerSize) where
+module _ (m : List ℕ) (size : length m ≡ layer_size) where
   abbrev l : Layer
-  l = layerFrom m
+  l = layer_from m
 
-  waits : layerSound l ≡ true → (v : ℕ) → waitSound (laneAt l v).wait ≡ true
-  waits s v = lane-wait (laneAt l v) (each_lane l s v)
+  waits : layer_sound l ≡ true → (v : ℕ) → wait_sound (lane_at l v).wait ≡ true
+  waits s v = lane-wait (lane_at l v) (each_lane l s v)
 
   same : Holds m m l
   same = record { is = refl; size = size; canonical = λ c. c }
 
-  joined-held : (v : ℕ) (b : List ℕ) → Waits l v b → Holds m (withPart m v (joinedBytes (lanePart m v) b)) (withLane l v (joins b (laneAt l v)))
+  joined-held : (v : ℕ) (b : List ℕ) → Waits l v b → Holds m (with_part m v (joined_bytes (lane_part m v) b)) (with_lane l v (joins b (lane_at l v)))
   joined-held v b w =
       let x = lends m v size (waits w.sound v) w.venue in
-      let k : u8_at (lanePart m v) countAt < 8 = (let r = w.room in omega (arith, count-is (lanePart m v), ap (λ (c : Lane). length c.wait) x.at)) in
-      let ys : List ℕ = joinedBytes (lanePart m v) b in
-      let fits : length ys ≡ laneSize = joined-size (lanePart m v) b x.size k w.short in
+      let k : u8_at (lane_part m v) count_at < 8 = (let r = w.room in omega (arith, count-is (lane_part m v), ap (λ (c : Lane). length c.wait) x.at)) in
+      let ys : List ℕ = joined_bytes (lane_part m v) b in
+      let fits : length ys ≡ lane_size = joined-size (lane_part m v) b x.size k w.short in
       record {
-        is = lane-anew m v ys size w.venue fits ∙ ap (withLane l v) (lane-joined (lanePart m v) b x.size k w.short x.fine ∙ ap (joins b) (sym x.at));
+        is = lane-anew m v ys size w.venue fits ∙ ap (with_lane l v) (lane-joined (lane_part m v) b x.size k w.short x.fine ∙ ap (joins b) (sym x.at));
         size = with_size m v ys size w.venue fits;
-        canonical = λ c. canonical-anew m v ys size w.venue fits c (joined-canonical (lanePart m v) b x.size k w.short (c v w.venue));
+        canonical = λ c. canonical-anew m v ys size w.venue fits c (joined-canonical (lane_part m v) b x.size k w.short (c v w.venue));
       }
 
-  held-arrive : (v : ℕ) (b : List ℕ) → Holds m (arriveHeld m v b).memory (arrive l v b).layer
-  unfolding arriveHeld
+  held-arrive : (v : ℕ) (b : List ℕ) → Holds m (arrive_held m v b).memory (arrive l v b).layer
+  unfolding arrive_held
   held-arrive v b =
-      rw (eq-eqb (length m) layerSize size)
-      (arrive-by (λ a. Holds m (if eqb a.number 0 then withPart m v (joinedBytes (lanePart m v) b) else m) a.layer) l v b
+      rw (eq-eqb (length m) layer_size size)
+      (arrive-by (λ a. Holds m (if eqb a.number 0 then with_part m v (joined_bytes (lane_part m v) b) else m) a.layer) l v b
       (λ x n _. rw (ne_eqb x 0 n) same) (λ w. joined-held v b w))
 
   module _ (room : ℕ) where
-    served-held : layerSound l ≡ true → next l ≢ 4 → (headCall (laneAt l (next l)) room).returned.done ≢ 0 →
-        Holds m (servedBytes m (next l) room) (record { lanes = set l.lanes (next l) (advanced (laneAt l (next l)) (headCall (laneAt l (next l)) room)); last = next l })
-    unfolding servedBytes withLane
+    served-held : layer_sound l ≡ true → next l ≢ 4 → (head_call (lane_at l (next l)) room).returned.done ≢ 0 →
+        Holds m (served_bytes m (next l) room) (record { lanes = set l.lanes (next l) (advanced (lane_at l (next l)) (head_call (lane_at l (next l)) room)); last = next l })
+    unfolding served_bytes with_lane
     served-held s n d =
         let k = lends-next m size (λ v _. waits s v) n in
         let x = k.1 in
-        let bs : List ℕ = lanePart m (next l) in
-        let r : Call = headCalled bs room in
-        let h : headCall (laneAt l (next l)) room ≡ r = ap (λ (c : Lane). headCall c room) x.at ∙ head-called bs room k.2 in
+        let bs : List ℕ = lane_part m (next l) in
+        let r : Call = head_called bs room in
+        let h : head_call (lane_at l (next l)) room ≡ r = ap (λ (c : Lane). head_call c room) x.at ∙ head-called bs room k.2 in
         let did : r.returned.done ≢ 0 = rw h at d in
-        let ys : List ℕ = advancedBytes bs r.returned.number r.returned.venue in
-        let fits : length ys ≡ laneSize = advanced-size bs room x.size x.fine k.2 x.few did in
-        let whole : length (withPart m (next l) ys) ≡ layerSize = with_size m (next l) ys size k.0 fits in
+        let ys : List ℕ = advanced_bytes bs r.returned.number r.returned.venue in
+        let fits : length ys ≡ lane_size = advanced-size bs room x.size x.fine k.2 x.few did in
+        let whole : length (with_part m (next l) ys) ≡ layer_size = with_size m (next l) ys size k.0 fits in
         record {
-          is = last-anew (withPart m (next l) ys) (next l) whole
+          is = last-anew (with_part m (next l) ys) (next l) whole
               ∙ ap (λ (y : Layer). record { lanes = y.lanes; last = next l }) (lane-anew m (next l) ys size k.0 fits)
               ∙ ap (λ (c : Lane). record { lanes = set l.lanes (next l) c; last = next l })
-              (lane-advanced bs room x.size x.fine k.2 x.few did ∙ ap (λ (c : Lane). advanced c (headCall c room)) (sym x.at));
-          size = length-set (withPart m (next l) ys) last_at (next l) ∙ whole;
-          canonical = λ c. canonical-last (withPart m (next l) ys) (next l) whole
+              (lane-advanced bs room x.size x.fine k.2 x.few did ∙ ap (λ (c : Lane). advanced c (head_call c room)) (sym x.at));
+          size = length-set (with_part m (next l) ys) last_at (next l) ∙ whole;
+          canonical = λ c. canonical-last (with_part m (next l) ys) (next l) whole
               (canonical-anew m (next l) ys size k.0 fits c (advanced-canonical bs room x.size x.fine k.2 x.few did (c (next l) k.0)));
         }
 
-    held-turn : Holds m (turnHeld m room).memory (turn l room).layer
-    unfolding turnHeld turnLeaves idle serve
+    held-turn : Holds m (turn_held m room).memory (turn l room).layer
+    unfolding turn_held turn_leaves idle serve
     held-turn =
-        rw (eq-eqb (length m) layerSize size)
-        (turn_by (λ t. Holds m (if eqb t.served 4 then m else servedBytes m t.served room) t.layer) l room
+        rw (eq-eqb (length m) layer_size size)
+        (turn_by (λ t. Holds m (if eqb t.served 4 then m else served_bytes m t.served room) t.layer) l room
         (λ _. same) (λ _ _. same) (λ _ _ _. same) (λ s n d. rw (ne_eqb (next l) 4 n) (served-held s n d)))
 
-  held_after : (a : Asked) → Holds m (memoryAfter m a) (after l a)
-  unfolding memoryAfter after
+  held_after : (a : Asked) → Holds m (memory_after m a) (after l a)
+  unfolding memory_after after
   held_after (arrival v b) = held-arrive v b
   held_after (turning room) = held-turn room
 
 -- Over every list of calls --------------------------------------------------------------------
 
-held_all : (m : List ℕ) (list : List Asked) → length m ≡ layerSize → Holds m (memoryAfterAll m list) (afterAll (layerFrom m) list)
-unfolding memoryAfterAll afterAll
+held_all : (m : List ℕ) (list : List Asked) → length m ≡ layer_size → Holds m (memory_after_all m list) (after_all (layer_from m) list)
+unfolding memory_after_all after_all
 held_all m [] size = same m size
 held_all m (a ∷ list) size =
     let x = held_after m size a in
-    let y = held_all (memoryAfter m a) list x.size in
-    record { is = y.is ∙ ap (λ (z : Layer). afterAll z list) x.is; size = y.size; canonical = λ c. y.canonical (x.canonical c) }
+    let y = held_all (memory_after m a) list x.size in
+    record { is = y.is ∙ ap (λ (z : Layer). after_all z list) x.is; size = y.size; canonical = λ c. y.canonical (x.canonical c) }
 
 -- the fresh layer's memory
-module _ (m : List ℕ) (size : length m ≡ layerSize) where
-  fresh-memory : (freshHeld m).memory ≡ layerBytes freshLayer
-  unfolding freshHeld
-  fresh-memory = rw (eq-eqb (length m) layerSize size)
+module _ (m : List ℕ) (size : length m ≡ layer_size) where
+  fresh-memory : (fresh_held m).memory ≡ layer_bytes fresh_layer
+  unfolding fresh_held
+  fresh-memory = rw (eq-eqb (length m) layer_size size)
 
-  fresh-size : length (freshHeld m).memory ≡ layerSize
-  unfolding freshLayer
-  fresh-size = ap length fresh-memory ∙ layer-size freshLayer refl fresh-whole (omega arith)
+  fresh-size : length (fresh_held m).memory ≡ layer_size
+  unfolding fresh_layer
+  fresh-size = ap length fresh-memory ∙ layer-size fresh_layer refl fresh-whole (omega arith)
 
-  fresh-canonical : Canonical (freshHeld m).memory
+  fresh-canonical : Canonical (fresh_held m).memory
   fresh-canonical = rw fresh-memory layer-canonical
 
   -- and what calls leave of it
-  left : (list : List Asked) → Holds (freshHeld m).memory (memoryAfterAll (freshHeld m).memory list) (afterAll (layerFrom (freshHeld m).memory) list)
-  left list = held_all (freshHeld m).memory list fresh-size
+  left : (list : List Asked) → Holds (fresh_held m).memory (memory_after_all (fresh_held m).memory list) (after_all (layer_from (fresh_held m).memory) list)
+  left list = held_all (fresh_held m).memory list fresh-size
 
 pub held : Held
 held = record {
-  first = λ m size. ap layerFrom (fresh-memory m size) ∙ fresh-held;
+  first = λ m size. ap layer_from (fresh-memory m size) ∙ fresh-held;
   next = λ m list size. (held_all m list size).is;
 }
 

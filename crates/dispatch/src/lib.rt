@@ -1,9 +1,9 @@
 // Four venues behind one line: arrivals and turns on the layer in a host's memory (crate lanes).
 ghost use Rattle.std.specs.Prelude.{◌≡◌, [], length};
 ghost use Rattle.rules.specs.Records.{sheet};
-ghost use Rattle.engine.specs.Hosts.{onBytes};
-ghost use Rattle.dispatch.specs.Hosts.{replyOf, freshHeld, arriveHeld, idleReturned, turnReplyOf, turnHeld, toldOf, hostTurn};
-ghost use Rattle.dispatch.specs.Served.{headLeaves, laneServed};
+ghost use Rattle.engine.specs.Hosts.{on_bytes};
+ghost use Rattle.dispatch.specs.Hosts.{reply_of, fresh_held, arrive_held, idle_returned, turn_reply_of, turn_held, told_of, host_turn};
+ghost use Rattle.dispatch.specs.Served.{head_leaves, lane_served};
 ghost use Rattle.dispatch.specs.Requirements.{HeadReady, WaitReady};
 
 use engine::Ended;
@@ -13,7 +13,7 @@ use engine::Ended;
 // Writes a fresh layer into a host's memory. A memory of another length can hold no layer: 9.
 #[unsafe(no_mangle)]
 pub extern "C" fn legging_layer_fresh(layer: &mut [u8]) -> u8
-    ensures { replyOf result layer.new ≡ freshHeld layer.old }
+    ensures { reply_of result layer.new ≡ fresh_held layer.old }
 {
     if layer.len() != lanes::LAYER {
         return 9;
@@ -33,7 +33,7 @@ pub extern "C" fn legging_layer_fresh(layer: &mut [u8]) -> u8
 
 // A message arrives for one of the four venues. The call writes the memory only if it takes the message (returns 0).
 pub fn arrive(layer: &mut [u8], venue: u32, message: &[u8]) -> u8
-    ensures { replyOf result layer.new ≡ arriveHeld layer.old venue message.now }
+    ensures { reply_of result layer.new ≡ arrive_held layer.old venue message.now }
 {
     if layer.len() != lanes::LAYER {
         return 9;
@@ -62,7 +62,7 @@ pub fn arrive(layer: &mut [u8], venue: u32, message: &[u8]) -> u8
 // Only an accepted message writes them.
 fn call_head(lane: &mut [u8], report: &mut [u8]) -> Ended
     requires { HeadReady lane.old }
-    ensures { onBytes result lane.new report.new ≡ headLeaves lane.old (length report.old) }
+    ensures { on_bytes result lane.new report.new ≡ head_leaves lane.old (length report.old) }
 {
     let before = wire::u32_at(lane, lanes::DONE);
     let length = wire::u8_at(lane, lanes::PLACES) as usize;
@@ -77,7 +77,7 @@ fn call_head(lane: &mut [u8], report: &mut [u8]) -> Ended
 // The same, and a message that the call did leaves the wait.
 fn serve(lane: &mut [u8], report: &mut [u8]) -> Ended
     requires { WaitReady lane.old }
-    ensures { onBytes result lane.new report.new ≡ laneServed lane.old (length report.old) }
+    ensures { on_bytes result lane.new report.new ≡ lane_served lane.old (length report.old) }
 {
     let r = call_head(lane, report);
     if r.done != 0 {
@@ -97,7 +97,7 @@ pub struct TurnReturned {
 
 // A turn that serves no venue: a report of zeros.
 fn idle(number: u8, report: &mut [u8]) -> TurnReturned
-    ensures { (result ≡ idleReturned number) × (report.new ≡ sheet (length report.old) []) }
+    ensures { (result ≡ idle_returned number) × (report.new ≡ sheet (length report.old) []) }
 {
     records::zero_from(report, 0);
     TurnReturned {
@@ -111,7 +111,7 @@ fn idle(number: u8, report: &mut [u8]) -> TurnReturned
 // The next venue that has a message waiting does the message at the head of its wait. The call with it checks this venue, and `layer_sound` the others.
 // The report holds the message's records, then zeros.
 pub fn turn(layer: &mut [u8], report: &mut [u8]) -> TurnReturned
-    ensures { turnReplyOf result layer.new report.new ≡ turnHeld layer.old (length report.old) }
+    ensures { turn_reply_of result layer.new report.new ≡ turn_held layer.old (length report.old) }
 {
     if layer.len() != lanes::LAYER {
         return idle(9, report);
@@ -148,7 +148,7 @@ pub fn turn(layer: &mut [u8], report: &mut [u8]) -> TurnReturned
 // An arrival, as `arrive` does it.
 #[unsafe(no_mangle)]
 pub extern "C" fn legging_arrive(layer: &mut [u8], venue: u32, message: &[u8]) -> u8
-    ensures { replyOf result layer.new ≡ arriveHeld layer.old venue message.now }
+    ensures { reply_of result layer.new ≡ arrive_held layer.old venue message.now }
 {
     arrive(layer, venue, message)
 }
@@ -156,7 +156,7 @@ pub extern "C" fn legging_arrive(layer: &mut [u8], venue: u32, message: &[u8]) -
 // A turn: returns its number plus 256 times the venue served, 4 for no venue.
 #[unsafe(no_mangle)]
 pub extern "C" fn legging_turn(layer: &mut [u8], report: &mut [u8]) -> u32
-    ensures { toldOf result layer.new report.new ≡ hostTurn (turnHeld layer.old (length report.old)) }
+    ensures { told_of result layer.new report.new ≡ host_turn (turn_held layer.old (length report.old)) }
 {
     let r = turn(layer, report);
     r.number as u32 + 256 * (r.served as u32)

@@ -7,15 +7,15 @@ use native.Mathlib.Omega.{arith}
 use native.Mathlib.Numerals.{add-one}
 use lib.ListN.{length, take, replicate}
 use Rattle.rules.specs.declared.Venue.{Venue}
-use Rattle.rules.specs.Records.{Report, encodeAll, sheet}
+use Rattle.rules.specs.Records.{Report, encode_all, sheet}
 use Rattle.rules.specs.Step.{StepOutcome, step}
 use Rattle.rules.specs.Sound.{sound, follows}
-use Rattle.rules.specs.Calls.{called, exceeds, ends, after, oneFrom, one}
+use Rattle.rules.specs.Calls.{called, exceeds, ends, after, one_from, one}
 use Rattle.rules.proofs.CallsLaws.{no_number, no_room, not-exceeds}
 use Rattle.records.proofs.StageLaws.{stage-venue, stage-written}
 use Rattle.records.specs.Seen.{seen, ◌writes◌}
 use Rattle.records.proofs.SeenLaws.{wrote, overflowed, seen-room, sheet-left}
-use Rattle.places.specs.Layout.{venueOf}
+use Rattle.places.specs.Layout.{venue_of}
 use Rattle.places.proofs.Generations.{generations-twenty}
 use Rattle.places.proofs.Parts.{regulars-few, complexes-few}
 use Rattle.places.proofs.Tables.{upto-length, used-length}
@@ -23,11 +23,11 @@ use Rattle.demands.specs.Soundness.{Shaped, SoundVenue}
 use Rattle.answers.specs.declared.Stepped.{Stepped}
 use Rattle.answers.specs.Steps.{Steps}
 use Rattle.engine.specs.declared.Ended.{Ended}
-use Rattle.engine.specs.Runs.{returnedWith, call_of}
+use Rattle.engine.specs.Runs.{returned_with, call_of}
 
 -- numbers stand for a venue of the declared type
-shaped : (b : List ℕ) → Shaped (venueOf b)
-unfolding venueOf
+shaped : (b : List ℕ) → Shaped (venue_of b)
+unfolding venue_of
 shaped b =
     record {
       regular = used-length _ _ _ 128 (regulars-few b);
@@ -40,23 +40,23 @@ shaped b =
     }
 
 -- the numbers of a venue that is sound
-pub laid-sound : (v : Venue) (b : List ℕ) → sound v ≡ true → venueOf b ≡ v → SoundVenue (venueOf b)
+pub laid-sound : (v : Venue) (b : List ℕ) → sound v ≡ true → venue_of b ≡ v → SoundVenue (venue_of b)
 laid-sound v b fine stands = record { shaped = shaped b; is = ap sound stands ∙ fine }
 
 -- a call that ended before its first message
 pub ended-before : (l z : List ℕ) (k : ℕ) (r : Ended) (v : Venue) → (r ≡ record { number = k; done = 0; written = 0 }) × (z ≡ sheet (length l) []) →
-    call_of (returnedWith r v) z ≡ called (length l) (ends k v)
-unfolding called ends encodeAll
-ended-before l z k r v e = ap₂ (λ (x : Ended) (y : List ℕ). call_of (returnedWith x v) y) e.0 e.1
+    call_of (returned_with r v) z ≡ called (length l) (ends k v)
+unfolding called ends encode_all
+ended-before l z k r v e = ap₂ (λ (x : Ended) (y : List ℕ). call_of (returned_with x v) y) e.0 e.1
 
 module _ (v : Venue) (n room : ℕ) (m : List ℕ) where
   pub one-unready : (sound v && follows (suc n) v) ≡ false → called room (ends 9 v) ≡ one v n room m
-  unfolding one oneFrom
+  unfolding one one_from
   one-unready e = rw e
 
   module _ (fine : (sound v && follows (suc n) v) ≡ true) where
     pub one-ends : exceeds (suc n) room (step v (suc n) m).effect.reports ≡ true → called room (ends 10 v) ≡ one v n room m
-    unfolding one oneFrom
+    unfolding one one_from
     one-ends e = rw (fine, e)
 
     pub one-no-number : n ≡ 4294967295 → called room (ends 10 v) ≡ one v n room m
@@ -64,12 +64,12 @@ module _ (v : Venue) (n room : ℕ) (m : List ℕ) where
 
     pub one-does : exceeds (suc n) room (step v (suc n) m).effect.reports ≡ false →
         called room (after (step v (suc n) m).effect (ends (step v (suc n) m).refused (step v (suc n) m).effect.venue)) ≡ one v n room m
-    unfolding one oneFrom
+    unfolding one one_from
     one-does e = rw (fine, e)
 
 -- the message was done on b₀, which stands for v: r is what its step returned, b and o what it left
-module _ (v : Venue) (n : ℕ) (m b₀ b l o : List ℕ) (r : Stepped) (fine : (sound v && follows (suc n) v) ≡ true) (stands : venueOf b₀ ≡ v) (few : n < 4294967295)
-    (steps : Steps (step (venueOf b₀) (n + 1) m) l r b o) where
+module _ (v : Venue) (n : ℕ) (m b₀ b l o : List ℕ) (r : Stepped) (fine : (sound v && follows (suc n) v) ≡ true) (stands : venue_of b₀ ≡ v) (few : n < 4294967295)
+    (steps : Steps (step (venue_of b₀) (n + 1) m) l r b o) where
   abbrev a : StepOutcome
   a = step v (suc n) m
 
@@ -80,7 +80,7 @@ module _ (v : Venue) (n : ℕ) (m b₀ b l o : List ℕ) (r : Stepped) (fine : (
   stepped = rw (ap₂ (λ (x : Venue) (k : ℕ). step x k m) stands (add-one n)) at steps
 
   written : seen o r.written ≡ seen l 0 writes rs
-  written = stage-written (venueOf b) o l r.written 0 a.effect stepped.staged
+  written = stage-written (venue_of b) o l r.written 0 a.effect stepped.staged
 
   -- its records do not fit
   pub one-no-room : length l < r.written → called (length o) (ends 10 v) ≡ one v n (length l) m
@@ -90,14 +90,14 @@ module _ (v : Venue) (n : ℕ) (m b₀ b l o : List ℕ) (r : Stepped) (fine : (
       ∙ one-ends v n (length l) m fine (no_room (suc n) (length l) rs (omega arith) (omega arith))
 
   -- they do: the rest of the report is zeroed, and the venue read
-  pub one-done : (z : List ℕ) (w : Venue) → r.written ≤ length l → z ≡ take r.written o ++ replicate (length o - r.written) 0 → w ≡ venueOf b →
+  pub one-done : (z : List ℕ) (w : Venue) → r.written ≤ length l → z ≡ take r.written o ++ replicate (length o - r.written) 0 → w ≡ venue_of b →
       call_of (record { number = r.refused; done = 1; written = r.written; venue = w }) z ≡ one v n (length l) m
   unfolding called after ends
   one-done z w h e u =
-      let end : r.written ≡ length (encodeAll rs) = (wrote l o 0 r.written rs written h).end_is ∙ omega arith in
-      let venue : w ≡ a.effect.venue = u ∙ stage-venue (venueOf b) o l r.written 0 a.effect stepped.staged in
+      let end : r.written ≡ length (encode_all rs) = (wrote l o 0 r.written rs written h).end_is ∙ omega arith in
+      let venue : w ≡ a.effect.venue = u ∙ stage-venue (venue_of b) o l r.written 0 a.effect stepped.staged in
       let memory : z ≡ sheet (length l) rs = e ∙ sheet-left l o o r.written rs written h refl refl in
       ap₂ (λ (x : ℕ) (y : Venue). call_of (record { number = x; done = 1; written = r.written; venue = y }) z) stepped.refused venue
       ∙ ap₂ (λ (k : ℕ) (y : List ℕ). call_of (record { number = a.refused; done = 1; written = k; venue = a.effect.venue }) y) end memory
-      ∙ ap (λ (x : List Report). call_of (record { number = a.refused; done = 1; written = length (encodeAll x); venue = a.effect.venue }) (sheet (length l) x)) (sym (append-nil rs))
+      ∙ ap (λ (x : List Report). call_of (record { number = a.refused; done = 1; written = length (encode_all x); venue = a.effect.venue }) (sheet (length l) x)) (sym (append-nil rs))
       ∙ one-does v n (length l) m fine (not-exceeds (suc n) (length l) rs (omega arith) (omega arith))

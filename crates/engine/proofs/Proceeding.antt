@@ -9,16 +9,16 @@ use lib.Seq.{length-take-le}
 use borrow.Author.Tests.{eq-eqb, ne_eqb}
 use borrow.Rule.Slice.PartMut.{put_mid}
 use Rattle.rules.specs.declared.Venue.{Venue}
-use Rattle.rules.specs.Records.{Report, encodeAll, sheet}
+use Rattle.rules.specs.Records.{Report, encode_all, sheet}
 use Rattle.rules.specs.Step.{StepOutcome}
 use Rattle.rules.specs.Calls.{Outcome, called, ends, after}
 use Rattle.rules.proofs.CallsLaws.{encode-append}
 use Rattle.rules.proofs.Tests.{if-same}
 use Rattle.records.proofs.SeenLaws.{wrote, overflowed, pasted-to, part-all, tail-front, tail_more}
-use Rattle.places.specs.Layout.{size, venueOf}
+use Rattle.places.specs.Layout.{size, venue_of}
 use Rattle.answers.specs.declared.Stepped.{Stepped}
 use Rattle.messages.specs.Tries.{Tries}
-use Rattle.engine.specs.Runs.{onto, goesOn, Turned, call_of}
+use Rattle.engine.specs.Runs.{onto, goes_on, Turned, call_of}
 
 -- An outcome after messages and their records -------------------------------------------------
 
@@ -43,31 +43,31 @@ onto-onto j k a b o =
 -- How it goes on ------------------------------------------------------------------------------
 
 module _ (k : ℕ) (v : Venue) where
-  pub goes_on : (rest : Outcome) → k ≡ 0 → goesOn k v rest ≡ rest
-  unfolding goesOn
+  pub goes_on : (rest : Outcome) → k ≡ 0 → goes_on k v rest ≡ rest
+  unfolding goes_on
   goes_on rest e = rw (eq-eqb k 0 e)
 
-  pub goes-not : (rest : Outcome) → (k ≡ 0 → ⊥) → goesOn k v rest ≡ ends k v
-  unfolding goesOn
+  pub goes-not : (rest : Outcome) → (k ≡ 0 → ⊥) → goes_on k v rest ≡ ends k v
+  unfolding goes_on
   goes-not rest e = rw (ne_eqb k 0 e)
 
-  goes-ended : goesOn k v (ends k v) ≡ ends k v
-  unfolding goesOn
+  goes-ended : goes_on k v (ends k v) ≡ ends k v
+  unfolding goes_on
   goes-ended = if-same (eqb k 0) (ends k v)
 
 -- A turn --------------------------------------------------------------------------------------
 
 -- nothing more is done
 pub turn-ends : (before rest : Outcome) (k done written : ℕ) (l₀ b l : List ℕ) → (k ≡ 0 → ⊥) → written ≤ length l₀ → take written l ≡ take written l₀ →
-    before ≡ ends k (venueOf b) → Turned before done written l₀ k done written b l rest
-unfolding encodeAll
+    before ≡ ends k (venue_of b) → Turned before done written l₀ k done written b l rest
+unfolding encode_all
 turn-ends before rest k done written l₀ b l z w front e =
     record {
       records = [];
       bytes = front ∙ sym (append-nil (take written l₀));
       within = w;
       counted = omega arith;
-      is = e ∙ onto-zero (done - done) (ends k (venueOf b)) (omega arith) ∙ ap (onto (done - done) []) (sym (goes-not k (venueOf b) rest z));
+      is = e ∙ onto-zero (done - done) (ends k (venue_of b)) (omega arith) ∙ ap (onto (done - done) []) (sym (goes-not k (venue_of b) rest z));
     }
 
 -- a message was tried with what is left of the report from a position on: r is what was returned, and ys what that part then holds
@@ -86,10 +86,10 @@ module _ (a : StepOutcome) (at : ℕ) (b₀ b l ys : List ℕ) (r : Stepped) (w 
 
   -- its records do not fit
   module _ (h : length l - at < r.written) where
-    pub too_long : length l - at < length (encodeAll rs)
+    pub too_long : length l - at < length (encode_all rs)
     too_long = let n = lent_length in let z = overflowed lent ys 0 r.written rs tries.written (omega arith) in omega arith
 
-    pub venue-kept : venueOf b ≡ venueOf b₀
+    pub venue-kept : venue_of b ≡ venue_of b₀
     venue-kept = let n = lent_length in tries.left (omega arith)
 
     pub front_kept : take at back ≡ take at l
@@ -100,18 +100,18 @@ module _ (a : StepOutcome) (at : ℕ) (b₀ b l ys : List ℕ) (r : Stepped) (w 
     fits : r.written ≤ length lent
     fits = let n = lent_length in omega arith
 
-    pub length-is : r.written ≡ length (encodeAll rs)
-    length-is = let z : 0 + length (encodeAll rs) ≡ length (encodeAll rs) = omega arith in (wrote lent ys 0 r.written rs tries.written fits).end_is ∙ z
+    pub length-is : r.written ≡ length (encode_all rs)
+    length-is = let z : 0 + length (encode_all rs) ≡ length (encode_all rs) = omega arith in (wrote lent ys 0 r.written rs tries.written fits).end_is ∙ z
 
-    pub venue-is : venueOf b ≡ a.effect.venue
+    pub venue-is : venue_of b ≡ a.effect.venue
     venue-is = tries.done fits
 
-    bytes-are : take r.written ys ≡ encodeAll rs
+    bytes-are : take r.written ys ≡ encode_all rs
     bytes-are =
         let x = wrote lent ys 0 r.written rs tries.written fits in
-        ap₂ take x.end_is x.memory-is ∙ pasted-to lent (encodeAll rs) 0 zero-le
+        ap₂ take x.end_is x.memory-is ∙ pasted-to lent (encode_all rs) 0 zero-le
 
-    pub turn-does : (before rest : Outcome) (number done done' : ℕ) → done' ≡ suc done → before ≡ after a.effect (goesOn number (venueOf b) rest) →
+    pub turn-does : (before rest : Outcome) (number done done' : ℕ) → done' ≡ suc done → before ≡ after a.effect (goes_on number (venue_of b) rest) →
         Turned before done at l number done' (at + r.written) b back rest
     turn-does before rest number done done' one e =
         record {
@@ -119,7 +119,7 @@ module _ (a : StepOutcome) (at : ℕ) (b₀ b l ys : List ℕ) (r : Stepped) (w 
           bytes = tail_more l ys at r.written w ∙ ap (λ (x : List ℕ). take at l ++ x) bytes-are;
           within = omega arith;
           counted = omega arith;
-          is = e ∙ onto-one (done' - done) a.effect.venue rs (goesOn number (venueOf b) rest) (omega arith);
+          is = e ∙ onto-one (done' - done) a.effect.venue rs (goes_on number (venue_of b) rest) (omega arith);
         }
 
 -- So far --------------------------------------------------------------------------------------
@@ -130,11 +130,11 @@ pub record Sofar (whole : Outcome) (l₀ b l : List ℕ) (number done written : 
   pub slice : length b ≡ size
   pub len : length l ≡ length l₀
   pub within : written ≤ length l₀
-  pub bytes : take written l ≡ encodeAll records
-  pub is : whole ≡ onto done records (goesOn number (venueOf b) rest)
+  pub bytes : take written l ≡ encode_all records
+  pub is : whole ≡ onto done records (goes_on number (venue_of b) rest)
 
 pub sofar-start : (whole : Outcome) (l b : List ℕ) (done : ℕ) → length b ≡ size → done ≡ 0 → Sofar whole l b l 0 done 0 whole
-unfolding encodeAll
+unfolding encode_all
 sofar-start whole l b done n z =
     record {
       records = [];
@@ -142,12 +142,12 @@ sofar-start whole l b done n z =
       len = refl;
       within = zero-le;
       bytes = refl;
-      is = onto-zero done whole z ∙ ap (onto done []) (sym (goes_on 0 (venueOf b) whole refl));
+      is = onto-zero done whole z ∙ ap (onto done []) (sym (goes_on 0 (venue_of b) whole refl));
     }
 
 module _ (whole : Outcome) (l₀ b l : List ℕ) (number done written : ℕ) where
   -- what is left to do, said otherwise
-  pub sofar-as : (rest rest' : Outcome) → goesOn number (venueOf b) rest ≡ goesOn number (venueOf b) rest' → Sofar whole l₀ b l number done written rest →
+  pub sofar-as : (rest rest' : Outcome) → goes_on number (venue_of b) rest ≡ goes_on number (venue_of b) rest' → Sofar whole l₀ b l number done written rest →
       Sofar whole l₀ b l number done written rest'
   sofar-as rest rest' e g =
       record { records = g.records; slice = g.slice; len = g.len; within = g.within; bytes = g.bytes; is = g.is ∙ ap (onto done g.records) e }
@@ -164,33 +164,33 @@ module _ (whole : Outcome) (l₀ b l : List ℕ) (number done written : ℕ) whe
         slice = slice ∙ g.slice;
         len = same ∙ n;
         within = omega arith;
-        bytes = turn.bytes ∙ ap (λ (x : List ℕ). x ++ encodeAll turn.records) g.bytes ∙ sym (encode-append g.records turn.records);
+        bytes = turn.bytes ∙ ap (λ (x : List ℕ). x ++ encode_all turn.records) g.bytes ∙ sym (encode-append g.records turn.records);
         is =
-            g.is ∙ ap (onto done g.records) (goes_on number (venueOf b) rest going ∙ turn.is)
-            ∙ onto-onto done (k' - k) g.records turn.records (goesOn number' (venueOf b') rest')
-            ∙ ap (λ (j : ℕ). onto j (g.records ++ turn.records) (goesOn number' (venueOf b') rest')) z;
+            g.is ∙ ap (onto done g.records) (goes_on number (venue_of b) rest going ∙ turn.is)
+            ∙ onto-onto done (k' - k) g.records turn.records (goes_on number' (venue_of b') rest')
+            ∙ ap (λ (j : ℕ). onto j (g.records ++ turn.records) (goes_on number' (venue_of b') rest')) z;
       }
 
   -- The end: nothing is left to do
   abbrev pub Ended : Type 0
-  Ended = Sofar whole l₀ b l number done written (ends number (venueOf b))
+  Ended = Sofar whole l₀ b l number done written (ends number (venue_of b))
 
-  pub sofar-ends : (rest : Outcome) → goesOn number (venueOf b) rest ≡ ends number (venueOf b) → Sofar whole l₀ b l number done written rest → Ended
-  sofar-ends rest e = sofar-as rest (ends number (venueOf b)) (e ∙ sym (goes-ended number (venueOf b)))
+  pub sofar-ends : (rest : Outcome) → goes_on number (venue_of b) rest ≡ ends number (venue_of b) → Sofar whole l₀ b l number done written rest → Ended
+  sofar-ends rest e = sofar-as rest (ends number (venue_of b)) (e ∙ sym (goes-ended number (venue_of b)))
 
   -- the rest of the report zeroed, and the venue read
-  pub ended-call : (z : List ℕ) (v : Venue) → Ended → z ≡ take written l ++ replicate (length l - written) 0 → v ≡ venueOf b →
+  pub ended-call : (z : List ℕ) (v : Venue) → Ended → z ≡ take written l ++ replicate (length l - written) 0 → v ≡ venue_of b →
       call_of (record { number = number; done = done; written = written; venue = v }) z ≡ called (length l₀) whole
   unfolding called sheet onto ends
   ended-call z v d e u =
       let rs : List Report = d.records in
       let n = d.len in
       let w = d.within in
-      let k : written ≡ length (encodeAll rs) = sym (length-take-le written l (omega arith)) ∙ ap length d.bytes in
-      let j : length l - written ≡ length l₀ - length (encodeAll rs) = omega arith in
+      let k : written ≡ length (encode_all rs) = sym (length-take-le written l (omega arith)) ∙ ap length d.bytes in
+      let j : length l - written ≡ length l₀ - length (encode_all rs) = omega arith in
       let h : done ≡ done + 0 = omega arith in
       ap₂ (λ (x : Venue) (y : List ℕ). call_of (record { number = number; done = done; written = written; venue = x }) y) u
       (e ∙ ap₂ (λ (x : List ℕ) (i : ℕ). x ++ replicate i 0) d.bytes j)
-      ∙ ap₂ (λ (x y : ℕ). call_of (record { number = number; done = x; written = y; venue = venueOf b }) (sheet (length l₀) rs)) h k
-      ∙ ap (λ (x : List Report). call_of (record { number = number; done = done + 0; written = length (encodeAll x); venue = venueOf b }) (sheet (length l₀) x)) (sym (append-nil rs))
-      ∙ sym (ap (called (length l₀)) (d.is ∙ ap (onto done rs) (goes-ended number (venueOf b))))
+      ∙ ap₂ (λ (x y : ℕ). call_of (record { number = number; done = x; written = y; venue = venue_of b }) (sheet (length l₀) rs)) h k
+      ∙ ap (λ (x : List Report). call_of (record { number = number; done = done + 0; written = length (encode_all x); venue = venue_of b }) (sheet (length l₀) x)) (sym (append-nil rs))
+      ∙ sym (ap (called (length l₀)) (d.is ∙ ap (onto done rs) (goes-ended number (venue_of b))))

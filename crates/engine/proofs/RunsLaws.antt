@@ -9,13 +9,13 @@ use lib.ListN.{length, take, drop, replicate, length-drop, drop_of_length-le}
 use lib.Seq.{drop-drop}
 use borrow.Rule.Slice.PartMut.{put_mid}
 use Rattle.rules.specs.declared.Venue.{Venue}
-use Rattle.rules.specs.Words.{freshVenue}
-use Rattle.rules.specs.Bytes.{lengthField}
-use Rattle.rules.specs.Records.{Report, encodeAll}
+use Rattle.rules.specs.Words.{fresh_venue}
+use Rattle.rules.specs.Bytes.{length_field}
+use Rattle.rules.specs.Records.{Report, encode_all}
 use Rattle.rules.specs.Refusals.{torn}
 use Rattle.rules.specs.Step.{StepOutcome, answered, step}
 use Rattle.rules.specs.Sound.{sound, follows}
-use Rattle.rules.specs.Calls.{Outcome, called, exceeds, ends, after, is_taken, run_from, runUpon, runUponFrom, run}
+use Rattle.rules.specs.Calls.{Outcome, called, exceeds, ends, after, is_taken, run_from, run_upon, run_upon_from, run}
 use Rattle.rules.proofs.CallsLaws.{no_number, no_room, not-exceeds, run-full, run-torn, run_on, run_none}
 use Rattle.rules.proofs.RefusalsLaws.{whole}
 use Rattle.rules.proofs.Tests.{and_in, and_l, and_r}
@@ -24,13 +24,13 @@ use Rattle.demands.proofs.Calls.{stays-sound, fresh-sound}
 use Rattle.demands.proofs.Agree.{from-fresh}
 use Rattle.records.proofs.SeenLaws.{part-all}
 use Rattle.reader.specs.declared.Head.{Head}
-use Rattle.reader.specs.Head.{headAt, headNumber, headLength}
+use Rattle.reader.specs.Head.{head_at, head_number, head_length}
 use Rattle.reader.proofs.Heads.{head-torn, head-message, torn-refused, whole-refused}
-use Rattle.places.specs.Layout.{size, venueOf, Dense, Loaded}
+use Rattle.places.specs.Layout.{size, venue_of, Dense, Loaded}
 use Rattle.answers.specs.declared.Stepped.{Stepped}
 use Rattle.messages.specs.Tries.{Tries}
 use Rattle.engine.specs.declared.RunProgress.{RunProgress}
-use Rattle.engine.specs.Runs.{goesOn, Advances, RunStart, returnedWith, call_of}
+use Rattle.engine.specs.Runs.{goes_on, Advances, RunStart, returned_with, call_of}
 use Rattle.engine.proofs.Proceeding.{goes_on, goes-not, turn-ends, too_long, venue-kept, front_kept, length-is, venue-is, turn-does, Sofar}
 use Rattle.engine.proofs.OneCallLaws.{laid-sound}
 use Rattle.engine.proofs.Proceeding.{sofar-start, sofar-as, sofar-turn, Ended, sofar-ends, ended-call}
@@ -38,12 +38,12 @@ use Rattle.engine.proofs.Proceeding.{sofar-start, sofar-as, sofar-turn, Ended, s
 -- A turn --------------------------------------------------------------------------------------
 
 -- no number is left for the message
-pub turn-no-number : (t : RunProgress) (m b l : List ℕ) → t.at < length m → t.written ≤ length l → Dense b → SoundAt (suc t.done) (venueOf b) → t.done ≡ 4294967295 →
+pub turn-no-number : (t : RunProgress) (m b l : List ℕ) → t.at < length m → t.written ≤ length l → Dense b → SoundAt (suc t.done) (venue_of b) → t.done ≡ 4294967295 →
     Advances m t b l (record { number = 10; done = t.done; at = t.at; written = t.written }) b l
 turn-no-number t m b l a w d s e =
     record {
       turned = λ fuel. turn-ends _ _ 10 t.done t.written l b l (λ z. omega arith) w refl
-          (run-full fuel (venueOf b) t.done (length l - t.written) (drop t.at m) (rw length-drop (omega arith))
+          (run-full fuel (venue_of b) t.done (length l - t.written) (drop t.at m) (rw length-drop (omega arith))
           (no_number (suc t.done) (length l - t.written) _ (omega arith)));
       moved = λ z. absurd (omega arith);
       dense = d;
@@ -51,13 +51,13 @@ turn-no-number t m b l a w d s e =
     }
 
 -- the message was tried: r is what was returned, and ys what is left of the report from t's position on
-module _ (t : RunProgress) (m b₀ b l ys : List ℕ) (r : Stepped) (a : t.at < length m) (w : t.written ≤ length l) (s : SoundAt (suc t.done) (venueOf b₀)) (d : t.done < 4294967295)
-    (tries : Tries (step (venueOf b₀) (t.done + 1) (take (length m - t.at) (drop t.at m))) b₀ (take (length l - t.written) (drop t.written l)) r b ys) where
+module _ (t : RunProgress) (m b₀ b l ys : List ℕ) (r : Stepped) (a : t.at < length m) (w : t.written ≤ length l) (s : SoundAt (suc t.done) (venue_of b₀)) (d : t.done < 4294967295)
+    (tries : Tries (step (venue_of b₀) (t.done + 1) (take (length m - t.at) (drop t.at m))) b₀ (take (length l - t.written) (drop t.written l)) r b ys) where
   abbrev bs : List ℕ
   bs = drop t.at m
 
   abbrev v : Venue
-  v = venueOf b₀
+  v = venue_of b₀
 
   abbrev done : StepOutcome
   done = step v (suc t.done) bs
@@ -98,10 +98,10 @@ module _ (t : RunProgress) (m b₀ b l ys : List ℕ) (r : Stepped) (a : t.at < 
     roomy : exceeds (suc t.done) room rs ≡ false
     roomy = let n = length-is done t.written b₀ b l ys r w tried h in not-exceeds (suc t.done) room rs (omega arith) (omega arith)
 
-    same-venue : venueOf b ≡ done.effect.venue
+    same-venue : venue_of b ≡ done.effect.venue
     same-venue = venue-is done t.written b₀ b l ys r w tried h
 
-    sound-still : SoundAt (suc (t.done + 1)) (venueOf b)
+    sound-still : SoundAt (suc (t.done + 1)) (venue_of b)
     sound-still = rw (same-venue, add-one t.done) (stays-sound v (suc t.done) (omega arith) s bs)
 
     -- what is torn ends the run
@@ -111,65 +111,65 @@ module _ (t : RunProgress) (m b₀ b l ys : List ℕ) (r : Stepped) (a : t.at < 
         record {
           turned = λ fuel. turn-does done t.written b₀ b l ys r w tried h _ _ 1 t.done (t.done + 1) (add-one t.done)
               (run-torn fuel v t.done room bs some roomy (torn-refused v bs e)
-              ∙ ap (after done.effect) (ap (ends 1) (sym same-venue) ∙ sym (goes-not 1 (venueOf b) _ (λ z. omega arith))));
+              ∙ ap (after done.effect) (ap (ends 1) (sym same-venue) ∙ sym (goes-not 1 (venue_of b) _ (λ z. omega arith))));
           moved = λ z. absurd (omega arith);
           dense = tried.dense;
           sound = sound-still;
         }
 
     -- after a message that is whole it goes on
-    turn_more : torn bs ≡ false → Advances m t b₀ l (record { number = 0; done = t.done + 1; at = t.at + lengthField bs; written = t.written + r.written }) b back
+    turn_more : torn bs ≡ false → Advances m t b₀ l (record { number = 0; done = t.done + 1; at = t.at + length_field bs; written = t.written + r.written }) b back
     unfolding step answered
     turn_more e =
         let g = whole bs e in
         let least = g.0 in
         let most = g.1 in
         let k = length-drop t.at m in
-        let left : room - length (encodeAll rs) ≡ length l - (t.written + r.written) = (let q = length-is done t.written b₀ b l ys r w tried h in omega arith) in
-        let rest : drop (lengthField bs) bs ≡ drop (t.at + lengthField bs) m = drop-drop (lengthField bs) t.at m in
+        let left : room - length (encode_all rs) ≡ length l - (t.written + r.written) = (let q = length-is done t.written b₀ b l ys r w tried h in omega arith) in
+        let rest : drop (length_field bs) bs ≡ drop (t.at + length_field bs) m = drop-drop (length_field bs) t.at m in
         record {
           turned = λ fuel. turn-does done t.written b₀ b l ys r w tried h _ _ 0 t.done (t.done + 1) (add-one t.done)
               (run_on fuel v t.done room bs some roomy (whole-refused v bs e)
               ∙ ap (after done.effect)
-              (ap₂ (λ (x : Venue) (j : ℕ). run_from fuel x j (room - length (encodeAll rs)) (drop (lengthField bs) bs)) (sym same-venue) (sym (add-one t.done))
-              ∙ ap₂ (λ (j : ℕ) (x : List ℕ). run_from fuel (venueOf b) (t.done + 1) j x) left rest
-              ∙ sym (goes_on 0 (venueOf b) _ refl)));
+              (ap₂ (λ (x : Venue) (j : ℕ). run_from fuel x j (room - length (encode_all rs)) (drop (length_field bs) bs)) (sym same-venue) (sym (add-one t.done))
+              ∙ ap₂ (λ (j : ℕ) (x : List ℕ). run_from fuel (venue_of b) (t.done + 1) j x) left rest
+              ∙ sym (goes_on 0 (venue_of b) _ refl)));
           moved = λ _. (omega arith, omega arith, add-one t.done);
           dense = tried.dense;
           sound = sound-still;
         }
 
     -- what stood at the position decides which
-    pub turn-done : (h : Head) → h ≡ headAt m t.at → (x n : ℕ) → x ≡ headNumber h → n ≡ headLength h →
+    pub turn-done : (h : Head) → h ≡ head_at m t.at → (x n : ℕ) → x ≡ head_number h → n ≡ head_length h →
         Advances m t b₀ l (record { number = x; done = t.done + 1; at = t.at + n; written = t.written + r.written }) b back
     turn-done h e x n x-is n-is = go (torn bs) refl
       where
         go : (f : Bool) → torn bs ≡ f → Advances m t b₀ l (record { number = x; done = t.done + 1; at = t.at + n; written = t.written + r.written }) b back
-        go true f = let k = e ∙ head-torn bs some f in rw (x-is ∙ ap headNumber k) (turn-torn f n)
-        go false f = let k = e ∙ head-message bs some f in rw (x-is ∙ ap headNumber k, n-is ∙ ap headLength k) (turn_more f)
+        go true f = let k = e ∙ head-torn bs some f in rw (x-is ∙ ap head_number k) (turn-torn f n)
+        go false f = let k = e ∙ head-message bs some f in rw (x-is ∙ ap head_number k, n-is ∙ ap head_length k) (turn_more f)
 
 -- The loop ------------------------------------------------------------------------------------
 
 -- a run on v with n messages done before it, of the messages m, and the report memory l₀
 module _ (v : Venue) (n : ℕ) (m l₀ : List ℕ) where
   -- the whole run, and what is left of it at a turn
-  abbrev wholeRun : Outcome
-  wholeRun = run_from (length m) v n (length l₀) m
+  abbrev whole_run : Outcome
+  whole_run = run_from (length m) v n (length l₀) m
 
-  abbrev leftRun : (b : List ℕ) (t : RunProgress) → Outcome
-  leftRun b t = run_from (length m - (t.done - n)) (venueOf b) t.done (length l₀ - t.written) (drop t.at m)
+  abbrev left_run : (b : List ℕ) (t : RunProgress) → Outcome
+  left_run b t = run_from (length m - (t.done - n)) (venue_of b) t.done (length l₀ - t.written) (drop t.at m)
 
   pub record Running (b l : List ℕ) (t : RunProgress) : Type 0 where
-    pub sofar : Sofar wholeRun l₀ b l t.number (t.done - n) t.written (leftRun b t)
+    pub sofar : Sofar whole_run l₀ b l t.number (t.done - n) t.written (left_run b t)
     pub going : t.number ≡ 0
     pub since : n ≤ t.done
     pub count : t.done ≤ n + t.at
     pub at_in : t.at ≤ length m
     pub dense : Dense b
-    pub sound : SoundAt (suc t.done) (venueOf b)
+    pub sound : SoundAt (suc t.done) (venue_of b)
 
   pub record RunEnded (b l : List ℕ) (t : RunProgress) : Type 0 where
-    pub sofar : Ended wholeRun l₀ b l t.number (t.done - n) t.written
+    pub sofar : Ended whole_run l₀ b l t.number (t.done - n) t.written
     pub since : n ≤ t.done
 
   module _ (b l : List ℕ) (t : RunProgress) (g : Running b l t) where
@@ -177,11 +177,11 @@ module _ (v : Venue) (n : ℕ) (m l₀ : List ℕ) where
     pub running-end : length m ≤ t.at → RunEnded b l t
     running-end h =
         record {
-          sofar = sofar-ends wholeRun l₀ b l t.number (t.done - n) t.written (leftRun b t)
-              (goes_on t.number (venueOf b) (leftRun b t) g.going
-              ∙ ap (run_from (length m - (t.done - n)) (venueOf b) t.done (length l₀ - t.written)) (drop_of_length-le m {i = t.at} h)
-              ∙ run_none (length m - (t.done - n)) (venueOf b) t.done (length l₀ - t.written)
-              ∙ ap (λ (k : ℕ). ends k (venueOf b)) (sym g.going))
+          sofar = sofar-ends whole_run l₀ b l t.number (t.done - n) t.written (left_run b t)
+              (goes_on t.number (venue_of b) (left_run b t) g.going
+              ∙ ap (run_from (length m - (t.done - n)) (venue_of b) t.done (length l₀ - t.written)) (drop_of_length-le m {i = t.at} h)
+              ∙ run_none (length m - (t.done - n)) (venue_of b) t.done (length l₀ - t.written)
+              ∙ ap (λ (k : ℕ). ends k (venue_of b)) (sym g.going))
               g.sofar;
           since = g.since;
         }
@@ -189,13 +189,13 @@ module _ (v : Venue) (n : ℕ) (m l₀ : List ℕ) where
     module _ (r : RunProgress) (b' l' : List ℕ) (ahead : t.at < length m) (slice : length b' ≡ length b) (same : length l' ≡ length l) (turn : Advances m t b l r b' l') where
       -- one turn more, with the fuel that is left
       turned : (fuel : ℕ) → length m - (t.done - n) ≡ suc fuel →
-          Sofar wholeRun l₀ b' l' r.number (r.done - n) r.written (run_from fuel (venueOf b') r.done (length l - r.written) (drop r.at m))
+          Sofar whole_run l₀ b' l' r.number (r.done - n) r.written (run_from fuel (venue_of b') r.done (length l - r.written) (drop r.at m))
       turned fuel f =
           let k = (turn.turned fuel).counted in
           let j = g.since in
-          sofar-turn wholeRun l₀ b l t.number (t.done - n) t.written _
-          (sofar-as wholeRun l₀ b l t.number (t.done - n) t.written (leftRun b t) _
-          (ap (goesOn t.number (venueOf b)) (ap₂ (λ (x y : ℕ). run_from x (venueOf b) t.done (y - t.written) (drop t.at m)) f (sym g.sofar.len)))
+          sofar-turn whole_run l₀ b l t.number (t.done - n) t.written _
+          (sofar-as whole_run l₀ b l t.number (t.done - n) t.written (left_run b t) _
+          (ap (goes_on t.number (venue_of b)) (ap₂ (λ (x y : ℕ). run_from x (venue_of b) t.done (y - t.written) (drop t.at m)) f (sym g.sofar.len)))
           g.sofar)
           g.going r.number (r.done - n) r.written b' l' _ slice same t.done r.done (turn.turned fuel) (omega arith)
 
@@ -211,9 +211,9 @@ module _ (v : Venue) (n : ℕ) (m l₀ : List ℕ) where
           let s = g.since in
           let j : suc (t.done - n) ≡ r.done - n = omega arith in
           record {
-            sofar = sofar-as wholeRun l₀ b' l' r.number (r.done - n) r.written _ (leftRun b' r)
-                (ap (goesOn r.number (venueOf b'))
-                (ap₂ (λ (x y : ℕ). run_from (length m - x) (venueOf b') r.done (y - r.written) (drop r.at m)) j g.sofar.len))
+            sofar = sofar-as whole_run l₀ b' l' r.number (r.done - n) r.written _ (left_run b' r)
+                (ap (goes_on r.number (venue_of b'))
+                (ap₂ (λ (x y : ℕ). run_from (length m - x) (venue_of b') r.done (y - r.written) (drop r.at m)) j g.sofar.len))
                 (turned (length m - suc (t.done - n)) fuel-left);
             going = z;
             since = omega arith;
@@ -228,19 +228,19 @@ module _ (v : Venue) (n : ℕ) (m l₀ : List ℕ) where
           let k = (turn.turned 0).counted in
           let s = g.since in
           record {
-            sofar = sofar-ends wholeRun l₀ b' l' r.number (r.done - n) r.written _ (goes-not r.number (venueOf b') _ z) (turned (length m - suc (t.done - n)) fuel-left);
+            sofar = sofar-ends whole_run l₀ b' l' r.number (r.done - n) r.written _ (goes-not r.number (venue_of b') _ z) (turned (length m - suc (t.done - n)) fuel-left);
             since = omega arith;
           }
 
 -- a run begins with the numbers of its venue
-pub running-start : (n : ℕ) (m b l : List ℕ) → RunStart b n → Running (venueOf b) n m l b l (record { number = 0; done = n; at = 0; written = 0 })
+pub running-start : (n : ℕ) (m b l : List ℕ) → RunStart b n → Running (venue_of b) n m l b l (record { number = 0; done = n; at = 0; written = 0 })
 running-start n m b l s =
     let p : length m ≡ length m - (n - n) = omega arith in
     let q : length l ≡ length l - 0 = omega arith in
     record {
-      sofar = sofar-as (wholeRun (venueOf b) n m l) l b l 0 (n - n) 0 (wholeRun (venueOf b) n m l) _
-          (ap (goesOn 0 (venueOf b)) (ap₂ (λ (x y : ℕ). run_from x (venueOf b) n y m) p q))
-          (sofar-start (wholeRun (venueOf b) n m l) l b (n - n) s.slice (omega arith));
+      sofar = sofar-as (whole_run (venue_of b) n m l) l b l 0 (n - n) 0 (whole_run (venue_of b) n m l) _
+          (ap (goes_on 0 (venue_of b)) (ap₂ (λ (x y : ℕ). run_from x (venue_of b) n y m) p q))
+          (sofar-start (whole_run (venue_of b) n m l) l b (n - n) s.slice (omega arith));
       going = refl;
       since = omega arith;
       count = omega arith;
@@ -253,20 +253,20 @@ running-start n m b l s =
 
 -- one that is not taken, and one that is
 module _ (v : Venue) (n room : ℕ) (m : List ℕ) where
-  pub upon-not : is_taken v n ≡ false → called room (ends 9 v) ≡ runUpon v n room m
-  unfolding runUpon runUponFrom
+  pub upon-not : is_taken v n ≡ false → called room (ends 9 v) ≡ run_upon v n room m
+  unfolding run_upon run_upon_from
   upon-not e = rw e
 
-  pub upon-taken : is_taken v n ≡ true → called room (run_from (length m) v n room m) ≡ runUpon v n room m
-  unfolding runUpon runUponFrom
+  pub upon-taken : is_taken v n ≡ true → called room (run_from (length m) v n room m) ≡ run_upon v n room m
+  unfolding run_upon run_upon_from
   upon-taken e = rw e
 
 -- the rest of the report zeroed
-pub ran : (n : ℕ) (m l₀ b₀ b l z : List ℕ) (t : RunProgress) → RunStart b₀ n → RunEnded (venueOf b₀) n m l₀ b l t → z ≡ take t.written l ++ replicate (length l - t.written) 0 →
-    call_of (returnedWith (record { number = t.number; done = t.done - n; written = t.written }) (venueOf b)) z ≡ runUpon (venueOf b₀) n (length l₀) m
+pub ran : (n : ℕ) (m l₀ b₀ b l z : List ℕ) (t : RunProgress) → RunStart b₀ n → RunEnded (venue_of b₀) n m l₀ b l t → z ≡ take t.written l ++ replicate (length l - t.written) 0 →
+    call_of (returned_with (record { number = t.number; done = t.done - n; written = t.written }) (venue_of b)) z ≡ run_upon (venue_of b₀) n (length l₀) m
 ran n m l₀ b₀ b l z t s d e =
-    ended-call (wholeRun (venueOf b₀) n m l₀) l₀ b l t.number (t.done - n) t.written z (venueOf b) d.sofar e refl
-    ∙ upon-taken (venueOf b₀) n (length l₀) m (and_in _ _ s.sound.venue.is s.sound.next)
+    ended-call (whole_run (venue_of b₀) n m l₀) l₀ b l t.number (t.done - n) t.written z (venue_of b) d.sofar e refl
+    ∙ upon-taken (venue_of b₀) n (length l₀) m (and_in _ _ s.sound.venue.is s.sound.next)
 
 -- a run begins where its venue is taken
 pub taken_start : (v : Venue) (n : ℕ) (b : List ℕ) → length b ≡ size → is_taken v n ≡ true → Loaded v b → RunStart b n
@@ -278,8 +278,8 @@ taken_start v n b whole t l =
     }
 
 -- a run on the numbers of the fresh venue is a run from fresh
-pub ready-fresh : (b : List ℕ) → length b ≡ size → Loaded freshVenue b → RunStart b 0
+pub ready-fresh : (b : List ℕ) → length b ≡ size → Loaded fresh_venue b → RunStart b 0
 ready-fresh b n f = record { slice = n; dense = f.dense; sound = subst (SoundAt 1) (sym f.venue) fresh-sound }
 
-pub ran-fresh : (b : List ℕ) (room : ℕ) (m : List ℕ) → venueOf b ≡ freshVenue → runUpon (venueOf b) 0 room m ≡ run room m
-ran-fresh b room m f = ap (λ (v : Venue). runUpon v 0 room m) f ∙ sym (from-fresh room m)
+pub ran-fresh : (b : List ℕ) (room : ℕ) (m : List ℕ) → venue_of b ≡ fresh_venue → run_upon (venue_of b) 0 room m ≡ run room m
+ran-fresh b room m f = ap (λ (v : Venue). run_upon v 0 room m) f ∙ sym (from-fresh room m)

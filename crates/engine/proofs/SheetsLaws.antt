@@ -22,4 +22,4 @@ module _ (messages held₁ held₂ : List ℕ) (e : length held₁ ≡ length he
       (p.0 ∙ ap (λ (c : Call). c.returned.number) same-call ∙ sym q.0, p.1 ∙ ap (λ (c : Call). c.report) same-call ∙ sym q.1)
 
 pub sheet-follows : SheetFollows
-sheet-follows = record { byRun = by-run; byHost = by-host }
+sheet-follows = record { by_run = by-run; by_host = by-host }

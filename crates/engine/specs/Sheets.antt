@@ -14,7 +14,7 @@ RanHosted messages held n left = (n ≡ (run (length held) messages).returned.nu
 
 -- Two runs given the same messages and as many report bytes return the same and leave the same bytes, whatever the memories held before.
 pub record SheetFollows : Type 0 where
-  pub byRun : (messages held₁ held₂ : List ℕ) → length held₁ ≡ length held₂ → (r₁ r₂ : Returned) (left₁ left₂ : List ℕ) →
+  pub by_run : (messages held₁ held₂ : List ℕ) → length held₁ ≡ length held₂ → (r₁ r₂ : Returned) (left₁ left₂ : List ℕ) →
       Ran messages held₁ r₁ left₁ → Ran messages held₂ r₂ left₂ → (r₁ ≡ r₂) × (left₁ ≡ left₂)
-  pub byHost : (messages held₁ held₂ : List ℕ) → length held₁ ≡ length held₂ → (n₁ n₂ : ℕ) (left₁ left₂ : List ℕ) →
+  pub by_host : (messages held₁ held₂ : List ℕ) → length held₁ ≡ length held₂ → (n₁ n₂ : ℕ) (left₁ left₂ : List ℕ) →
       RanHosted messages held₁ n₁ left₁ → RanHosted messages held₂ n₂ left₂ → (n₁ ≡ n₂) × (left₁ ≡ left₂)

@@ -2,10 +2,10 @@
 ghost use Rattle.std.specs.Prelude.{◌≡◌, [], length};
 ghost use Rattle.rules.specs.Calls as calls;
 ghost use Rattle.rules.specs.Records.{sheet};
-ghost use Rattle.venue_bytes.specs.Held.{venueSize, venueFrom};
-ghost use Rattle.places.specs.Layout.{venueOf};
-ghost use Rattle.engine.specs.Runs.{RunReady, Advances, RunStart, returnedWith, call_of};
-ghost use Rattle.engine.specs.Hosts.{onBytes, leavesBytes, runLeavesBytes};
+ghost use Rattle.venue_bytes.specs.Held.{venue_size, venue_from};
+ghost use Rattle.places.specs.Layout.{venue_of};
+ghost use Rattle.engine.specs.Runs.{RunReady, Advances, RunStart, returned_with, call_of};
+ghost use Rattle.engine.specs.Hosts.{on_bytes, leaves_bytes, run_leaves_bytes};
 
 use reader::Head;
 use rules::{Returned, Venue};
@@ -74,7 +74,7 @@ pub struct Ended {
 // A run on the venue that the numbers stand for, with `before` messages done before it. The report holds the records of its messages, then zeros.
 pub fn run_on_numbers(numbers: &mut [u32], before: u32, messages: &[u8], report: &mut [u8]) -> Ended
     requires { RunStart numbers.old before }
-    ensures { call_of (returnedWith result (venueOf numbers.new)) report.new ≡ calls.runUpon (venueOf numbers.old) before (length report.old) messages.now }
+    ensures { call_of (returned_with result (venue_of numbers.new)) report.new ≡ calls.run_upon (venue_of numbers.old) before (length report.old) messages.now }
 {
     let mut t = RunProgress {
         number: 0,
@@ -117,8 +117,8 @@ pub fn end_before(number: u8, report: &mut [u8]) -> Ended
 // One message on the venue that the bytes stand for, with `before` messages done before it. The report holds the message's records, then zeros. Only an
 // accepted message writes the venue's bytes.
 pub fn message_on_bytes(venue: &mut [u8], before: u32, message: &[u8], report: &mut [u8]) -> Ended
-    requires { length venue.old ≡ venueSize }
-    ensures { onBytes result venue.new report.new ≡ leavesBytes venue.old (calls.one (venueFrom venue.old) before (length report.old) message.now) }
+    requires { length venue.old ≡ venue_size }
+    ensures { on_bytes result venue.new report.new ≡ leaves_bytes venue.old (calls.one (venue_from venue.old) before (length report.old) message.now) }
 {
     let mut numbers = [0u32; places::SIZE];
     if !soundness::load_bytes_ready(&mut numbers, venue, before) {
@@ -145,8 +145,8 @@ pub fn message_on_bytes(venue: &mut [u8], before: u32, message: &[u8], report: &
 
 // A run on the venue that the bytes stand for, with `before` messages done before it. Only a run that does a message writes the venue's bytes.
 pub fn run_on_bytes(venue: &mut [u8], before: u32, messages: &[u8], report: &mut [u8]) -> Ended
-    requires { length venue.old ≡ venueSize }
-    ensures { onBytes result venue.new report.new ≡ runLeavesBytes venue.old (calls.runUpon (venueFrom venue.old) before (length report.old) messages.now) }
+    requires { length venue.old ≡ venue_size }
+    ensures { on_bytes result venue.new report.new ≡ run_leaves_bytes venue.old (calls.run_upon (venue_from venue.old) before (length report.old) messages.now) }
 {
     let mut numbers = [0u32; places::SIZE];
     let taken = soundness::load_bytes_ready(&mut numbers, venue, before);
@@ -164,7 +164,7 @@ pub fn run_on_bytes(venue: &mut [u8], before: u32, messages: &[u8], report: &mut
 
 // What a call returns that ended so and left this venue.
 pub fn returned_with(r: Ended, venue: Venue) -> Returned
-    ensures { result ≡ returnedWith r venue }
+    ensures { result ≡ returned_with r venue }
 {
     Returned {
         number: r.number,
@@ -186,7 +186,7 @@ pub fn one_message(venue: Venue, before: u32, message: &[u8], report: &mut [u8])
 
 // A run on a venue, with `before` messages done before it. The report holds the records of its messages, then zeros.
 pub fn run_upon(venue: Venue, before: u32, messages: &[u8], report: &mut [u8]) -> Returned
-    ensures { call_of result report.new ≡ calls.runUpon venue before (length report.old) messages.now }
+    ensures { call_of result report.new ≡ calls.run_upon venue before (length report.old) messages.now }
 {
     let mut bytes = venue_writer::bytes_of(venue);
     let r = run_on_bytes(&mut bytes, before, messages, report);

@@ -9,19 +9,19 @@ use lib.ListN.{length, drop, length-drop}
 use lib.Seq.{length-take-le}
 use borrow.Author.Tests.{ne_eqb, eq-eqb, eqb-true, eqb-false, lt-ltb}
 use Rattle.rules.specs.Base.{if◌then◌else◌}
-use Rattle.rules.specs.Bytes.{lengthField}
+use Rattle.rules.specs.Bytes.{length_field}
 use Rattle.rules.proofs.Front.{length_front}
 use Rattle.rules.proofs.RefusalsLaws.{whole}
-use Rattle.feed.specs.Feed.{number_of, messageIn, behind, faulty, faultless, faultlessFrom, Part, partsFrom, parts_of, Under, absent, stands, under, later, same, Next, message, stop, next, nextBy}
+use Rattle.feed.specs.Feed.{number_of, message_in, behind, faulty, faultless, faultless_from, Part, parts_from, parts_of, Under, absent, stands, under, later, same, Next, message, stop, next, next_by}
 use Rattle.feed.specs.Sent.{WholeMessage}
-use Rattle.feed.specs.Cursors.{ready, stopOf, part_of, upNext, advanceOf}
+use Rattle.feed.specs.Cursors.{ready, stop_of, part_of, up_next, advance_of}
 use Rattle.feed.proofs.Handing.{under-past, later-past}
 use Rattle.feed.proofs.Cursors.{fine-above, fine-whole, fine-in, fine-length, advance-is, advance-not, ready-some, spare-has, faultless-not, faultless-on}
 
 -- these bytes hold these parts, all numbers above the last
 abbrev Holds : (last : ℕ) (bs : List ℕ) (ps : List Part) → Type 0
 Holds last bs [] = length bs ≡ 0
-Holds last bs (p ∷ ps) = (0 < length bs) × (faulty last bs ≡ false) × (p.number ≡ number_of bs) × (p.message ≡ messageIn bs) × Holds (number_of bs) (behind bs) ps
+Holds last bs (p ∷ ps) = (0 < length bs) × (faulty last bs ≡ false) × (p.number ≡ number_of bs) × (p.message ≡ message_in bs) × Holds (number_of bs) (behind bs) ps
 
 behind-length : (last : ℕ) (bs : List ℕ) → faulty last bs ≡ false → length (behind bs) < length bs
 unfolding behind
@@ -29,23 +29,23 @@ behind-length last bs e =
     let a = fine-length last bs e in
     let x = a.0 in
     let y = a.1 in
-    let k = length-drop (4 + lengthField (drop 4 bs)) bs in
+    let k = length-drop (4 + length_field (drop 4 bs)) bs in
     omega arith
 
-parts_none : (fuel : ℕ) (bs : List ℕ) → eqb (length bs) 0 ≡ true → partsFrom (suc fuel) bs ≡ []
-unfolding partsFrom
-parts_none fuel bs e = rw (e, partsFrom)
+parts_none : (fuel : ℕ) (bs : List ℕ) → eqb (length bs) 0 ≡ true → parts_from (suc fuel) bs ≡ []
+unfolding parts_from
+parts_none fuel bs e = rw (e, parts_from)
 
-parts-some : (fuel : ℕ) (bs : List ℕ) → eqb (length bs) 0 ≡ false → partsFrom (suc fuel) bs ≡ record { number = number_of bs; message = messageIn bs } ∷ partsFrom fuel (behind bs)
-unfolding partsFrom
-parts-some fuel bs e = rw (e, partsFrom)
+parts-some : (fuel : ℕ) (bs : List ℕ) → eqb (length bs) 0 ≡ false → parts_from (suc fuel) bs ≡ record { number = number_of bs; message = message_in bs } ∷ parts_from fuel (behind bs)
+unfolding parts_from
+parts-some fuel bs e = rw (e, parts_from)
 
-holds-line : (fuel last : ℕ) (bs : List ℕ) → length bs ≤ fuel → faultlessFrom fuel last bs ≡ true → Holds last bs (partsFrom fuel bs)
-holds-line zero last bs le r = unfold partsFrom in (omega arith)
+holds-line : (fuel last : ℕ) (bs : List ℕ) → length bs ≤ fuel → faultless_from fuel last bs ≡ true → Holds last bs (parts_from fuel bs)
+holds-line zero last bs le r = unfold parts_from in (omega arith)
 holds-line (suc fuel) last bs le r = go (eqb (length bs) 0) refl (faulty last bs) refl (λ x cs k. holds-line fuel x cs k)
   where
     go : (z : Bool) → eqb (length bs) 0 ≡ z → (f : Bool) → faulty last bs ≡ f →
-        ((x : ℕ) (cs : List ℕ) → length cs ≤ fuel → faultlessFrom fuel x cs ≡ true → Holds x cs (partsFrom fuel cs)) → Holds last bs (partsFrom (suc fuel) bs)
+        ((x : ℕ) (cs : List ℕ) → length cs ≤ fuel → faultless_from fuel x cs ≡ true → Holds x cs (parts_from fuel cs)) → Holds last bs (parts_from (suc fuel) bs)
     go true a f b on = subst (Holds last bs) (sym (parts_none fuel bs a)) (eqb-true (length bs) 0 a)
     go false a true b on =
         let z = eqb-false (length bs) 0 a in
@@ -75,7 +75,7 @@ holds-low last k bs (p ∷ ps) h le =
 
 -- what stands under the next number
 abbrev here : (n : ℕ) (bs : List ℕ) → Under
-here n bs = if eqb (number_of bs) n then stands (messageIn bs) else absent
+here n bs = if eqb (number_of bs) n then stands (message_in bs) else absent
 
 number-empty : (bs : List ℕ) → length bs ≡ 0 → number_of bs ≡ 0
 unfolding number_of
@@ -85,7 +85,7 @@ under-here : (last : ℕ) (bs : List ℕ) (ps : List Part) → Holds last bs ps 
 under-here last bs [] h = let z = number-empty bs h in unfold under in (rw (ne_eqb (number_of bs) (suc last) (λ e. omega arith)))
 under-here last bs (p ∷ ps) h = go (eqb (number_of bs) (suc last)) refl
   where
-    go : (t : Bool) → eqb (number_of bs) (suc last) ≡ t → under (suc last) (p ∷ ps) ≡ (if t then stands (messageIn bs) else absent)
+    go : (t : Bool) → eqb (number_of bs) (suc last) ≡ t → under (suc last) (p ∷ ps) ≡ (if t then stands (message_in bs) else absent)
     go true e = under-front (suc last) p ps (ap (λ (k : ℕ). eqb k (suc last)) h.2 ∙ e) ∙ ap stands h.3
     go false e =
         let f = fine-above last bs h.1 in
@@ -103,13 +103,13 @@ later-here last bs (p ∷ ps) h some e =
 WholeParts : List Part → Type 0
 WholeParts ps = (k : ℕ) (bs : List ℕ) → under k ps ≡ stands bs → WholeMessage bs
 
-message-whole : (last : ℕ) (bs : List ℕ) → faulty last bs ≡ false → WholeMessage (messageIn bs)
-unfolding messageIn
+message-whole : (last : ℕ) (bs : List ℕ) → faulty last bs ≡ false → WholeMessage (message_in bs)
+unfolding message_in
 message-whole last bs e =
     let w = whole (drop 4 bs) (fine-whole last bs e) in
     let a = w.0 in
-    let l = length-take-le (lengthField (drop 4 bs)) (drop 4 bs) w.1 in
-    let f = length_front (drop 4 bs) (lengthField (drop 4 bs)) (omega arith) w.1 in
+    let l = length-take-le (length_field (drop 4 bs)) (drop 4 bs) w.1 in
+    let f = length_front (drop 4 bs) (length_field (drop 4 bs)) (omega arith) w.1 in
     (omega arith, f ∙ sym l)
 
 stands_same : (a b : List ℕ) → stands a ≡ stands b → a ≡ b
@@ -149,11 +149,11 @@ pub record Ahead (n : ℕ) (bs : List ℕ) (line : List Part) : Type 0 where
 pub ahead-start : (line : List ℕ) → faultless line ≡ true → Ahead 0 line (parts_of line)
 unfolding faultless parts_of
 ahead-start line e =
-    record { parts = partsFrom (length line) line; held = holds-line (length line) 0 line (omega arith) e; same-under = λ k h. refl; same-later = λ k h. refl }
+    record { parts = parts_from (length line) line; held = holds-line (length line) 0 line (omega arith) e; same-under = λ k h. refl; same-later = λ k h. refl }
 
 pub line-whole : (line : List ℕ) → faultless line ≡ true → (k : ℕ) (bs : List ℕ) → under k (parts_of line) ≡ stands bs → WholeMessage bs
 unfolding faultless parts_of WholeParts
-line-whole line e = holds-whole 0 line (partsFrom (length line) line) (holds-line (length line) 0 line (omega arith) e)
+line-whole line e = holds-whole 0 line (parts_from (length line) line) (holds-line (length line) 0 line (omega arith) e)
 
 pub ahead-ready : (n : ℕ) (bs : List ℕ) (line : List Part) → Ahead n bs line → ready n bs ≡ true
 ahead-ready n bs line g = go g.parts g.held
@@ -162,16 +162,16 @@ ahead-ready n bs line g = go g.parts g.held
     go [] h = unfold ready in (rw (eq-eqb (length bs) 0 h))
     go (p ∷ ps) h = let z = h.0 in unfold ready in (rw (ne_eqb (length bs) 0 (λ e. omega arith), h.1))
 
-advance-behind : (n : ℕ) (bs : List ℕ) → number_of bs ≡ n → drop (advanceOf n bs) bs ≡ behind bs
+advance-behind : (n : ℕ) (bs : List ℕ) → number_of bs ≡ n → drop (advance_of n bs) bs ≡ behind bs
 unfolding behind
 advance-behind n bs e = ap (λ (k : ℕ). drop k bs) (advance-is n bs e)
 
 -- the line once the next number is handed out
-pub ahead-moved : (n : ℕ) (bs : List ℕ) (line : List Part) → Ahead n bs line → Ahead (suc n) (drop (advanceOf (suc n) bs) bs) line
+pub ahead-moved : (n : ℕ) (bs : List ℕ) (line : List Part) → Ahead n bs line → Ahead (suc n) (drop (advance_of (suc n) bs) bs) line
 ahead-moved n bs line g = go g.parts g.held g.same-under g.same-later
   where
     go : (ps : List Part) → Holds n bs ps → ((k : ℕ) → n < k → under k line ≡ under k ps) → ((k : ℕ) → n < k → later k line ≡ later k ps) →
-        Ahead (suc n) (drop (advanceOf (suc n) bs) bs) line
+        Ahead (suc n) (drop (advance_of (suc n) bs) bs) line
     go [] h u l =
         let z = number-empty bs h in
         record {
@@ -182,7 +182,7 @@ ahead-moved n bs line g = go g.parts g.held g.same-under g.same-later
         }
     go (p ∷ ps) h u l = by (eqb (number_of bs) (suc n)) refl
       where
-        by : (t : Bool) → eqb (number_of bs) (suc n) ≡ t → Ahead (suc n) (drop (advanceOf (suc n) bs) bs) line
+        by : (t : Bool) → eqb (number_of bs) (suc n) ≡ t → Ahead (suc n) (drop (advance_of (suc n) bs) bs) line
         by true e =
             let x = eqb-true (number_of bs) (suc n) e in
             let y = h.2 in
@@ -203,10 +203,10 @@ ahead-moved n bs line g = go g.parts g.held g.same-under g.same-later
             }
 
 -- and it stays on the line
-pub advance-within : (n : ℕ) (bs : List ℕ) → ready n bs ≡ true → advanceOf (suc n) bs ≤ length bs
+pub advance-within : (n : ℕ) (bs : List ℕ) → ready n bs ≡ true → advance_of (suc n) bs ≤ length bs
 advance-within n bs r = go (eqb (number_of bs) (suc n)) refl
   where
-    go : (t : Bool) → eqb (number_of bs) (suc n) ≡ t → advanceOf (suc n) bs ≤ length bs
+    go : (t : Bool) → eqb (number_of bs) (suc n) ≡ t → advance_of (suc n) bs ≤ length bs
     go true e =
         let x = eqb-true (number_of bs) (suc n) e in
         let y = advance-is (suc n) bs x in
@@ -215,10 +215,10 @@ advance-within n bs r = go (eqb (number_of bs) (suc n)) refl
     go false e = let y = advance-not (suc n) bs (eqb-false (number_of bs) (suc n) e) in omega arith
 
 -- where a message is handed out, a line goes on
-pub some-move : (n : ℕ) (m s : List ℕ) → stopOf n m s ≡ 0 → 0 < advanceOf n m + advanceOf n s
+pub some-move : (n : ℕ) (m s : List ℕ) → stop_of n m s ≡ 0 → 0 < advance_of n m + advance_of n s
 some-move n m s z = go (eqb (number_of m) n) refl
   where
-    go : (t : Bool) → eqb (number_of m) n ≡ t → 0 < advanceOf n m + advanceOf n s
+    go : (t : Bool) → eqb (number_of m) n ≡ t → 0 < advance_of n m + advance_of n s
     go true e = let y = advance-is n m (eqb-true (number_of m) n e) in omega arith
     go false e = let y = advance-is n s (spare-has n m s (eqb-false (number_of m) n e) z) in omega arith
 
@@ -236,9 +236,9 @@ abbrev kept : (a b t : Bool) → ℕ
 kept a b t = if a then if b then if t then 0 else 19 else 0 else if b then 0 else 20
 
 by-fronts : (a b : Bool) (x y : List ℕ) (l : Bool) → (a ≡ false → b ≡ false → l ≡ true) →
-    nextBy (if a then stands x else absent) (if b then stands y else absent) l
+    next_by (if a then stands x else absent) (if b then stands y else absent) l
     ≡ (if eqb (kept a b (same x y)) 0 then message (if a then x else y) else stop (kept a b (same x y)))
-unfolding nextBy
+unfolding next_by
 by-fronts true true x y l h = go (same x y)
   where
     go : (t : Bool) → ◌≡◌ {A = Next} (if t then message x else stop 19) (if eqb (kept true true t) 0 then message x else stop (kept true true t))
@@ -263,8 +263,8 @@ stop-not k b e = true≢false (sym (ap is_stop e))
     is_stop (message x) = true
 
 by_whole : (x y : Under) (l : Bool) (bs : List ℕ) → ((cs : List ℕ) → x ≡ stands cs → WholeMessage cs) → ((cs : List ℕ) → y ≡ stands cs → WholeMessage cs) →
-    nextBy x y l ≡ message bs → WholeMessage bs
-unfolding nextBy
+    next_by x y l ≡ message bs → WholeMessage bs
+unfolding next_by
 by_whole (stands a) (stands b) l bs f g e = go (same a b) e
   where
     go : (t : Bool) → (if t then message a else stop 19) ≡ message bs → WholeMessage bs
@@ -292,16 +292,16 @@ module _ (n : ℕ) (bs cs : List ℕ) (m s : List Part) (g : Ahead n bs m) (h : 
       ap (λ (t : Bool). t || later (suc n) s) (g.same-later (suc n) (omega arith) ∙ later-here n bs g.parts g.held (omega arith) a)
 
   -- it is what the front of both lines says
-  pub next_up : 0 < length bs + length cs → next (suc n) m s ≡ upNext (suc n) bs cs
-  unfolding next upNext stopOf part_of
+  pub next_up : 0 < length bs + length cs → next (suc n) m s ≡ up_next (suc n) bs cs
+  unfolding next up_next stop_of part_of
   next_up some =
       rw (main-under, spare-under)
-      (by-fronts (eqb (number_of bs) (suc n)) (eqb (number_of cs) (suc n)) (messageIn bs) (messageIn cs) (later (suc n) m || later (suc n) s)
+      (by-fronts (eqb (number_of bs) (suc n)) (eqb (number_of cs) (suc n)) (message_in bs) (message_in cs) (later (suc n) m || later (suc n) s)
       (λ a b. ahead-then some a b (eqb (length bs) 0) refl))
 
   -- both lines are at their ends
   pub next-end : length bs ≡ 0 → length cs ≡ 0 → next (suc n) m s ≡ stop 0
-  unfolding next nextBy
+  unfolding next next_by
   next-end a b =
       let x = number-empty bs a in
       let y = number-empty cs b in
@@ -321,10 +321,10 @@ next-whole main spare a b k bs e = by_whole (under k (parts_of main)) (under k (
 
 -- What is up ----------------------------------------------------------------------------------
 
-pub up-message : (n : ℕ) (m s : List ℕ) → stopOf n m s ≡ 0 → upNext n m s ≡ message (part_of n m s)
-unfolding upNext
+pub up-message : (n : ℕ) (m s : List ℕ) → stop_of n m s ≡ 0 → up_next n m s ≡ message (part_of n m s)
+unfolding up_next
 up-message n m s e = rw e
 
-pub up-stop : (n : ℕ) (m s : List ℕ) (k : ℕ) → k ≡ stopOf n m s → (k ≡ 0 → ⊥) → upNext n m s ≡ stop k
-unfolding upNext
+pub up-stop : (n : ℕ) (m s : List ℕ) (k : ℕ) → k ≡ stop_of n m s → (k ≡ 0 → ⊥) → up_next n m s ≡ stop k
+unfolding up_next
 up-stop n m s k e z = rw (sym e, ne_eqb k 0 z)

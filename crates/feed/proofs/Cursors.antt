@@ -8,15 +8,15 @@ use lib.Dec.{leb, ltb, eqb}
 use lib.ListN.{length, get_or, take, drop, length-drop}
 use lib.Seq.{drop-drop, drop-cons}
 use borrow.Author.Tests.{eqb-true, eqb-false, eq-eqb, ne_eqb, leb-true, leb-false, le-leb, lt-leb, lt-ltb, le-ltb, ltb-true, ltb-false, not-true}
-use Rattle.rules.specs.Bytes.{u16At, u32_at, lengthField}
+use Rattle.rules.specs.Bytes.{u16_at, u32_at, length_field}
 use Rattle.rules.specs.Refusals.{torn}
 use Rattle.rules.proofs.RefusalsLaws.{whole}
 use Rattle.rules.proofs.Tests.{or-false-l, or-false-r, and-false}
 use Rattle.wire.proofs.Numbers.{u16-here, u32-here}
-use Rattle.reader.specs.Head.{head_of, headAt, headLength}
+use Rattle.reader.specs.Head.{head_of, head_at, head_length}
 use Rattle.reader.proofs.Heads.{head-end, head-torn, head-message}
-use Rattle.feed.specs.Feed.{number_of, messageIn, behind, faulty, faultless, faultlessFrom, same}
-use Rattle.feed.specs.Cursors.{partLength, ready, stopOf, part_of, advanceOf}
+use Rattle.feed.specs.Feed.{number_of, message_in, behind, faulty, faultless, faultless_from, same}
+use Rattle.feed.specs.Cursors.{part_length, ready, stop_of, part_of, advance_of}
 
 -- Numbers -------------------------------------------------------------------------------------
 
@@ -55,7 +55,7 @@ unfolding faulty
 fine-in last bs h t = rw (lt-leb (number_of bs) last h) t
 
 -- and all of it is there
-pub fine-length : (last : ℕ) (bs : List ℕ) → faulty last bs ≡ false → (4 ≤ lengthField (drop 4 bs)) × (4 + lengthField (drop 4 bs) ≤ length bs)
+pub fine-length : (last : ℕ) (bs : List ℕ) → faulty last bs ≡ false → (4 ≤ length_field (drop 4 bs)) × (4 + length_field (drop 4 bs) ≤ length bs)
 fine-length last bs e =
     let w = whole (drop 4 bs) (fine-whole last bs e) in
     let a = w.0 in
@@ -74,11 +74,11 @@ ready-some last bs e h = let z = number-some bs h in ready-fine last bs e (omega
 
 -- the same, of the bytes from a position on
 module _ (l : List ℕ) (at : ℕ) where
-  pub field-here : lengthField (drop 4 (drop at l)) ≡ u16At l (at + 4)
-  unfolding lengthField
-  field-here = ap (λ (x : List ℕ). u16At x 0) (drop-drop 4 at l) ∙ sym (u16-here (at + 4) l)
+  pub field-here : length_field (drop 4 (drop at l)) ≡ u16_at l (at + 4)
+  unfolding length_field
+  field-here = ap (λ (x : List ℕ). u16_at x 0) (drop-drop 4 at l) ∙ sym (u16-here (at + 4) l)
 
-  pub whole_here : (last : ℕ) → faulty last (drop at l) ≡ false → (at + 6 ≤ length l) × (at + 4 + u16At l (at + 4) ≤ length l)
+  pub whole_here : (last : ℕ) → faulty last (drop at l) ≡ false → (at + 6 ≤ length l) × (at + 4 + u16_at l (at + 4) ≤ length l)
   whole_here last e =
       let f = fine-length last (drop at l) e in
       let a = f.0 in
@@ -88,72 +88,72 @@ module _ (l : List ℕ) (at : ℕ) where
       let p = number-ahead l at (let z = fine-above last (drop at l) e in omega arith) in
       (omega arith, omega arith)
 
-  pub message-here : (n : ℕ) → n ≡ u16At l (at + 4) → take (at + 4 + n - (at + 4)) (drop (at + 4) l) ≡ messageIn (drop at l)
-  unfolding messageIn
+  pub message-here : (n : ℕ) → n ≡ u16_at l (at + 4) → take (at + 4 + n - (at + 4)) (drop (at + 4) l) ≡ message_in (drop at l)
+  unfolding message_in
   message-here n e =
-      let z : at + 4 + n - (at + 4) ≡ lengthField (drop 4 (drop at l)) = (let g = field-here in omega arith) in
+      let z : at + 4 + n - (at + 4) ≡ length_field (drop 4 (drop at l)) = (let g = field-here in omega arith) in
       ap₂ take z (sym (drop-drop 4 at l))
 
 -- 21's test of a part -------------------------------------------------------------------------
 
-part-faulty : (last : ℕ) (bs : List ℕ) → faulty last bs ≡ true → 0 ≡ partLength last bs
-unfolding partLength
+part-faulty : (last : ℕ) (bs : List ℕ) → faulty last bs ≡ true → 0 ≡ part_length last bs
+unfolding part_length
 part-faulty last bs e = rw e
 
-part-fine : (last : ℕ) (bs : List ℕ) → faulty last bs ≡ false → lengthField (drop 4 bs) ≡ partLength last bs
-unfolding partLength
+part-fine : (last : ℕ) (bs : List ℕ) → faulty last bs ≡ false → length_field (drop 4 bs) ≡ part_length last bs
+unfolding part_length
 part-fine last bs e = rw e
 
-pub part_low : (last : ℕ) (bs : List ℕ) → number_of bs ≤ last → 0 ≡ partLength last bs
+pub part_low : (last : ℕ) (bs : List ℕ) → number_of bs ≤ last → 0 ≡ part_length last bs
 part_low last bs h = part-faulty last bs (unfold faulty in (rw (le-leb (number_of bs) last h) refl))
 
-pub part-head : (l : List ℕ) (at last : ℕ) → last < number_of (drop at l) → headLength (headAt l (at + 4)) ≡ partLength last (drop at l)
-part-head l at last h = ap (λ (x : List ℕ). headLength (head_of x)) (sym (drop-drop 4 at l)) ∙ go (torn ts) refl (eqb (length ts) 0) refl
+pub part-head : (l : List ℕ) (at last : ℕ) → last < number_of (drop at l) → head_length (head_at l (at + 4)) ≡ part_length last (drop at l)
+part-head l at last h = ap (λ (x : List ℕ). head_length (head_of x)) (sym (drop-drop 4 at l)) ∙ go (torn ts) refl (eqb (length ts) 0) refl
   where
     ts : List ℕ
     ts = drop 4 (drop at l)
 
-    go : (t : Bool) → torn ts ≡ t → (z : Bool) → eqb (length ts) 0 ≡ z → headLength (head_of ts) ≡ partLength last (drop at l)
-    go true e true f = ap headLength (head-end ts (eqb-true (length ts) 0 f)) ∙ part-faulty last (drop at l) (unfold faulty in (rw (lt-leb (number_of (drop at l)) last h) e))
-    go true e false f = ap headLength (head-torn ts (let y = eqb-false (length ts) 0 f in omega arith) e) ∙ part-faulty last (drop at l)
+    go : (t : Bool) → torn ts ≡ t → (z : Bool) → eqb (length ts) 0 ≡ z → head_length (head_of ts) ≡ part_length last (drop at l)
+    go true e true f = ap head_length (head-end ts (eqb-true (length ts) 0 f)) ∙ part-faulty last (drop at l) (unfold faulty in (rw (lt-leb (number_of (drop at l)) last h) e))
+    go true e false f = ap head_length (head-torn ts (let y = eqb-false (length ts) 0 f in omega arith) e) ∙ part-faulty last (drop at l)
         (unfold faulty in (rw (lt-leb (number_of (drop at l)) last h) e))
     go false e z f =
         let w = whole ts e in
         let a = w.0 in
         let b = w.1 in
-        ap headLength (head-message ts (omega arith) e) ∙ part-fine last (drop at l) (fine-in last (drop at l) h e)
+        ap head_length (head-message ts (omega arith) e) ∙ part-fine last (drop at l) (fine-in last (drop at l) h e)
 
 -- its answer says which
-pub part-zero : (last : ℕ) (bs : List ℕ) (n : ℕ) → n ≡ partLength last bs → n ≡ 0 → faulty last bs ≡ true
+pub part-zero : (last : ℕ) (bs : List ℕ) (n : ℕ) → n ≡ part_length last bs → n ≡ 0 → faulty last bs ≡ true
 part-zero last bs n e z = go (faulty last bs) refl
   where
     go : (t : Bool) → faulty last bs ≡ t → faulty last bs ≡ true
     go true f = f
     go false f = let k = part-fine last bs f in let w = (fine-length last bs f).0 in absurd (omega arith)
 
-pub part-some : (last : ℕ) (bs : List ℕ) (n : ℕ) → n ≡ partLength last bs → (n ≡ 0 → ⊥) → (faulty last bs ≡ false) × (n ≡ lengthField (drop 4 bs))
+pub part-some : (last : ℕ) (bs : List ℕ) (n : ℕ) → n ≡ part_length last bs → (n ≡ 0 → ⊥) → (faulty last bs ≡ false) × (n ≡ length_field (drop 4 bs))
 part-some last bs n e z = go (faulty last bs) refl
   where
-    go : (t : Bool) → faulty last bs ≡ t → (faulty last bs ≡ false) × (n ≡ lengthField (drop 4 bs))
+    go : (t : Bool) → faulty last bs ≡ t → (faulty last bs ≡ false) × (n ≡ length_field (drop 4 bs))
     go true f = absurd (z (e ∙ sym (part-faulty last bs f)))
     go false f = (f, e ∙ sym (part-fine last bs f))
 
 -- A line, part by part ------------------------------------------------------------------------
 
-pub faultless-none : (fuel last : ℕ) (bs : List ℕ) → length bs ≡ 0 → faultlessFrom fuel last bs ≡ true
-unfolding faultlessFrom
+pub faultless-none : (fuel last : ℕ) (bs : List ℕ) → length bs ≡ 0 → faultless_from fuel last bs ≡ true
+unfolding faultless_from
 faultless-none zero last bs e = refl
-faultless-none (suc fuel) last bs e = rw (eq-eqb (length bs) 0 e, faultlessFrom)
+faultless-none (suc fuel) last bs e = rw (eq-eqb (length bs) 0 e, faultless_from)
 
-pub faultless-not : (fuel last : ℕ) (bs : List ℕ) → 0 < length bs → faulty last bs ≡ true → faultlessFrom (suc fuel) last bs ≡ false
-unfolding faultlessFrom
-faultless-not fuel last bs h e = rw (ne_eqb (length bs) 0 (λ z. omega arith), e, faultlessFrom)
+pub faultless-not : (fuel last : ℕ) (bs : List ℕ) → 0 < length bs → faulty last bs ≡ true → faultless_from (suc fuel) last bs ≡ false
+unfolding faultless_from
+faultless-not fuel last bs h e = rw (ne_eqb (length bs) 0 (λ z. omega arith), e, faultless_from)
 
-pub faultless-on : (fuel last : ℕ) (bs : List ℕ) → 0 < length bs → faulty last bs ≡ false → faultlessFrom (suc fuel) last bs ≡ faultlessFrom fuel (number_of bs) (behind bs)
-unfolding faultlessFrom
-faultless-on fuel last bs h e = rw (ne_eqb (length bs) 0 (λ z. omega arith), e, faultlessFrom)
+pub faultless-on : (fuel last : ℕ) (bs : List ℕ) → 0 < length bs → faulty last bs ≡ false → faultless_from (suc fuel) last bs ≡ faultless_from fuel (number_of bs) (behind bs)
+unfolding faultless_from
+faultless-on fuel last bs h e = rw (ne_eqb (length bs) 0 (λ z. omega arith), e, faultless_from)
 
-pub behind-here : (l : List ℕ) (at n : ℕ) → n ≡ lengthField (drop 4 (drop at l)) → behind (drop at l) ≡ drop (at + (4 + n)) l
+pub behind-here : (l : List ℕ) (at n : ℕ) → n ≡ length_field (drop 4 (drop at l)) → behind (drop at l) ≡ drop (at + (4 + n)) l
 unfolding behind
 behind-here l at n e = rw (sym e) (drop-drop (4 + n) at l)
 
@@ -201,48 +201,48 @@ next_fits last m s at other a b h k lt x y = go (ltb at (length m)) refl
         omega arith
 
 module _ (n : ℕ) (m s : List ℕ) where
-  pub stop-neither : (number_of m ≡ n → ⊥) → (number_of s ≡ n → ⊥) → 20 ≡ stopOf n m s
-  unfolding stopOf
+  pub stop-neither : (number_of m ≡ n → ⊥) → (number_of s ≡ n → ⊥) → 20 ≡ stop_of n m s
+  unfolding stop_of
   stop-neither a b = rw (ne_eqb (number_of m) n a, ne_eqb (number_of s) n b)
 
-  pub stop-spare : (number_of m ≡ n → ⊥) → number_of s ≡ n → 0 ≡ stopOf n m s
-  unfolding stopOf
+  pub stop-spare : (number_of m ≡ n → ⊥) → number_of s ≡ n → 0 ≡ stop_of n m s
+  unfolding stop_of
   stop-spare a b = rw (ne_eqb (number_of m) n a, eq-eqb (number_of s) n b)
 
-  pub stop-main : number_of m ≡ n → (number_of s ≡ n → ⊥) → 0 ≡ stopOf n m s
-  unfolding stopOf
+  pub stop-main : number_of m ≡ n → (number_of s ≡ n → ⊥) → 0 ≡ stop_of n m s
+  unfolding stop_of
   stop-main a b = rw (eq-eqb (number_of m) n a, ne_eqb (number_of s) n b)
 
-  pub stop-same : number_of m ≡ n → number_of s ≡ n → same (messageIn m) (messageIn s) ≡ true → 0 ≡ stopOf n m s
-  unfolding stopOf
+  pub stop-same : number_of m ≡ n → number_of s ≡ n → same (message_in m) (message_in s) ≡ true → 0 ≡ stop_of n m s
+  unfolding stop_of
   stop-same a b c = rw (eq-eqb (number_of m) n a, eq-eqb (number_of s) n b, c)
 
-  pub stop-differ : number_of m ≡ n → number_of s ≡ n → same (messageIn m) (messageIn s) ≡ false → 19 ≡ stopOf n m s
-  unfolding stopOf
+  pub stop-differ : number_of m ≡ n → number_of s ≡ n → same (message_in m) (message_in s) ≡ false → 19 ≡ stop_of n m s
+  unfolding stop_of
   stop-differ a b c = rw (eq-eqb (number_of m) n a, eq-eqb (number_of s) n b, c)
 
-  pub part-main : number_of m ≡ n → messageIn m ≡ part_of n m s
+  pub part-main : number_of m ≡ n → message_in m ≡ part_of n m s
   unfolding part_of
   part-main a = rw (eq-eqb (number_of m) n a)
 
-  pub part-spare : (number_of m ≡ n → ⊥) → messageIn s ≡ part_of n m s
+  pub part-spare : (number_of m ≡ n → ⊥) → message_in s ≡ part_of n m s
   unfolding part_of
   part-spare a = rw (ne_eqb (number_of m) n a)
 
   -- where nothing stops it and main does not have it, the spare has it
-  pub spare-has : (number_of m ≡ n → ⊥) → stopOf n m s ≡ 0 → number_of s ≡ n
+  pub spare-has : (number_of m ≡ n → ⊥) → stop_of n m s ≡ 0 → number_of s ≡ n
   spare-has a e = go (eqb (number_of s) n) refl
     where
       go : (t : Bool) → eqb (number_of s) n ≡ t → number_of s ≡ n
       go true f = eqb-true (number_of s) n f
       go false f = let z = stop-neither a (eqb-false (number_of s) n f) in absurd (omega arith)
 
-pub advance-not : (n : ℕ) (bs : List ℕ) → (number_of bs ≡ n → ⊥) → advanceOf n bs ≡ 0
-unfolding advanceOf
+pub advance-not : (n : ℕ) (bs : List ℕ) → (number_of bs ≡ n → ⊥) → advance_of n bs ≡ 0
+unfolding advance_of
 advance-not n bs e = rw (ne_eqb (number_of bs) n e)
 
-pub advance-is : (n : ℕ) (bs : List ℕ) → number_of bs ≡ n → advanceOf n bs ≡ 4 + lengthField (drop 4 bs)
-unfolding advanceOf
+pub advance-is : (n : ℕ) (bs : List ℕ) → number_of bs ≡ n → advance_of n bs ≡ 4 + length_field (drop 4 bs)
+unfolding advance_of
 advance-is n bs e = rw (eq-eqb (number_of bs) n e)
 
 -- how far a line is tested
@@ -250,7 +250,7 @@ pub record Tested (l : List ℕ) (last at : ℕ) : Type 0 where
   pub fuel : ℕ
   pub enough : length l - at ≤ fuel
   pub within : at ≤ length l
-  pub is : faultless l ≡ faultlessFrom fuel last (drop at l)
+  pub is : faultless l ≡ faultless_from fuel last (drop at l)
 
 pub tested-start : (l : List ℕ) → Tested l 0 0
 unfolding faultless
@@ -267,11 +267,11 @@ module _ (l : List ℕ) (last at : ℕ) (g : Tested l last at) where
     pub tested-not : faulty last (drop at l) ≡ true → false ≡ faultless l
     tested-not e = sym (g.is ∙ go g.fuel g.enough)
       where
-        go : (f : ℕ) → length l - at ≤ f → faultlessFrom f last (drop at l) ≡ false
+        go : (f : ℕ) → length l - at ≤ f → faultless_from f last (drop at l) ≡ false
         go zero h = absurd (omega arith)
         go (suc f) h = faultless-not f last (drop at l) some_left e
 
-    module _ (n x : ℕ) (e : faulty last (drop at l) ≡ false) (n-is : n ≡ lengthField (drop 4 (drop at l))) (x-is : x ≡ number_of (drop at l)) where
+    module _ (n x : ℕ) (e : faulty last (drop at l) ≡ false) (n-is : n ≡ length_field (drop 4 (drop at l))) (x-is : x ≡ number_of (drop at l)) where
       pub part-within : at + (4 + n) ≤ length l
       part-within =
           let w = (fine-length last (drop at l) e).1 in
@@ -281,11 +281,11 @@ module _ (l : List ℕ) (last at : ℕ) (g : Tested l last at) where
       pub tested-on : Tested l x (at + (4 + n))
       tested-on = go g.fuel g.enough g.is
         where
-          go : (f : ℕ) → length l - at ≤ f → faultless l ≡ faultlessFrom f last (drop at l) → Tested l x (at + (4 + n))
+          go : (f : ℕ) → length l - at ≤ f → faultless l ≡ faultless_from f last (drop at l) → Tested l x (at + (4 + n))
           go zero h i = absurd (omega arith)
           go (suc f) h i = record {
             fuel = f;
             enough = omega arith;
             within = part-within;
-            is = i ∙ faultless-on f last (drop at l) some_left e ∙ ap₂ (faultlessFrom f) (sym x-is) (behind-here l at n n-is);
+            is = i ∙ faultless-on f last (drop at l) some_left e ∙ ap₂ (faultless_from f) (sym x-is) (behind-here l at n n-is);
           }

@@ -9,9 +9,9 @@ use lib.ListN.{length, take, drop, length-append}
 use lib.Seq.{take-append_seam, drop-append_seam}
 use Rattle.rules.specs.declared.Venue.{Venue}
 use Rattle.rules.specs.Base.{if◌then◌else◌}
-use Rattle.rules.specs.Words.{freshVenue}
-use Rattle.rules.specs.Bytes.{lengthField}
-use Rattle.rules.specs.Records.{encodeAll}
+use Rattle.rules.specs.Words.{fresh_venue}
+use Rattle.rules.specs.Bytes.{length_field}
+use Rattle.rules.specs.Records.{encode_all}
 use Rattle.rules.specs.Effects.{Effect}
 use Rattle.rules.specs.Step.{StepOutcome, step, answered}
 use Rattle.rules.specs.Calls.{Outcome, called, exceeds, ends, after, run_from, run}
@@ -19,9 +19,9 @@ use Rattle.rules.proofs.CallsLaws.{run-full, run_on, run_none}
 use Rattle.rules.proofs.Front.{length-same, front-step}
 use Rattle.rules.proofs.RefusalsLaws.{whole_in}
 use Rattle.reader.proofs.Heads.{whole-refused}
-use Rattle.feed.specs.Feed.{Part, Next, message, stop, next, Handed, stopped, first, handedFrom, handed, joined, numbered, feed, faultless, parts_of}
+use Rattle.feed.specs.Feed.{Part, Next, message, stop, next, Handed, stopped, first, handed_from, handed, joined, numbered, feed, faultless, parts_of}
 use Rattle.feed.specs.Sent.{WholeMessage}
-use Rattle.feed.specs.Turns.{hands, fedFrom}
+use Rattle.feed.specs.Turns.{hands, fed_from}
 use Rattle.feed.proofs.Handing.{handed-on, handed-stop}
 
 -- An outcome with another number --------------------------------------------------------------
@@ -40,10 +40,10 @@ ending-after k e o = refl
 -- One message in front of others --------------------------------------------------------------
 
 module _ (m rest : List ℕ) (w : WholeMessage m) where
-  field_is : lengthField (m ++ rest) ≡ length m
+  field_is : length_field (m ++ rest) ≡ length m
   field_is = length-same m rest (let a = w.0 in omega arith) ∙ w.1
 
-  whole_is : (4 ≤ lengthField (m ++ rest)) × (lengthField (m ++ rest) ≤ length (m ++ rest))
+  whole_is : (4 ≤ length_field (m ++ rest)) × (length_field (m ++ rest) ≤ length (m ++ rest))
   whole_is = let a = w.0 in let f = field_is in let l = length-append m rest in (omega arith, omega arith)
 
   front-is : (v : Venue) (number : ℕ) → step v number (m ++ rest) ≡ step v number m
@@ -56,7 +56,7 @@ module _ (m rest : List ℕ) (w : WholeMessage m) where
   some : 0 < length (m ++ rest)
   some = let a = w.0 in let l = length-append m rest in omega arith
 
-  rest-is : drop (lengthField (m ++ rest)) (m ++ rest) ≡ rest
+  rest-is : drop (length_field (m ++ rest)) (m ++ rest) ≡ rest
   rest-is = ap (λ (k : ℕ). drop k (m ++ rest)) field_is ∙ drop-append_seam m rest
 
   module _ (fuel : ℕ) (v : Venue) (n room : ℕ) where
@@ -67,11 +67,11 @@ module _ (m rest : List ℕ) (w : WholeMessage m) where
     front-full e = run-full fuel v n room (m ++ rest) some (ap (λ (x : StepOutcome). exceeds (suc n) room x.effect.reports) (front-is v (suc n)) ∙ e)
 
     front-more : exceeds (suc n) room a.effect.reports ≡ false →
-        run_from (suc fuel) v n room (m ++ rest) ≡ after a.effect (run_from fuel a.effect.venue (suc n) (room - length (encodeAll a.effect.reports)) rest)
+        run_from (suc fuel) v n room (m ++ rest) ≡ after a.effect (run_from fuel a.effect.venue (suc n) (room - length (encode_all a.effect.reports)) rest)
     front-more e =
         run_on fuel v n room (m ++ rest) some (ap (λ (x : StepOutcome). exceeds (suc n) room x.effect.reports) (front-is v (suc n)) ∙ e)
         (ap (λ (x : StepOutcome). eqb x.refused 1) (front-is v (suc n)) ∙ not-one v (suc n))
-        ∙ ap₂ (λ (x : StepOutcome) (r : List ℕ). after x.effect (run_from fuel x.effect.venue (suc n) (room - length (encodeAll x.effect.reports)) r)) (front-is v (suc n)) rest-is
+        ∙ ap₂ (λ (x : StepOutcome) (r : List ℕ). after x.effect (run_from fuel x.effect.venue (suc n) (room - length (encode_all x.effect.reports)) r)) (front-is v (suc n)) rest-is
 
 module _ (v : Venue) (n room : ℕ) (bs : List ℕ) (rest : Venue → ℕ → Outcome) where
   pub hands-full : exceeds (suc n) room (step v (suc n) bs).effect.reports ≡ true → hands v n room bs rest ≡ ends 10 v
@@ -79,18 +79,18 @@ module _ (v : Venue) (n room : ℕ) (bs : List ℕ) (rest : Venue → ℕ → Ou
   hands-full e = rw (e, hands)
 
   pub hands_more : exceeds (suc n) room (step v (suc n) bs).effect.reports ≡ false →
-      hands v n room bs rest ≡ after (step v (suc n) bs).effect (rest (step v (suc n) bs).effect.venue (room - length (encodeAll (step v (suc n) bs).effect.reports)))
+      hands v n room bs rest ≡ after (step v (suc n) bs).effect (rest (step v (suc n) bs).effect.venue (room - length (encode_all (step v (suc n) bs).effect.reports)))
   unfolding hands
   hands_more e = rw (e, hands)
 
 module _ (fuel : ℕ) (v : Venue) (n room : ℕ) (m s : List Part) where
-  pub fed-on : (bs : List ℕ) → next (suc n) m s ≡ message bs → fedFrom (suc fuel) v n room m s ≡ hands v n room bs (λ w left. fedFrom fuel w (suc n) left m s)
-  unfolding fedFrom
-  fed-on bs e = rw (e, fedFrom)
+  pub fed-on : (bs : List ℕ) → next (suc n) m s ≡ message bs → fed_from (suc fuel) v n room m s ≡ hands v n room bs (λ w left. fed_from fuel w (suc n) left m s)
+  unfolding fed_from
+  fed-on bs e = rw (e, fed_from)
 
-  pub fed-stop : (k : ℕ) → next (suc n) m s ≡ stop k → fedFrom (suc fuel) v n room m s ≡ ends k v
-  unfolding fedFrom
-  fed-stop k e = rw (e, fedFrom)
+  pub fed-stop : (k : ℕ) → next (suc n) m s ≡ stop k → fed_from (suc fuel) v n room m s ≡ ends k v
+  unfolding fed_from
+  fed-stop k e = rw (e, fed_from)
 
 -- The law -------------------------------------------------------------------------------------
 
@@ -122,29 +122,29 @@ runs-first (suc F) v n room bs h rest w le on = go (exceeds (suc n) room (step v
         ∙ sym (ap (ending h.number) (front-more bs (joined h.messages) w F v n room e) ∙ ending-after h.number _ _)
 
 module _ (m s : List Part) (all : (k : ℕ) (bs : List ℕ) → next k m s ≡ message bs → WholeMessage bs) where
-  fed-run : (fuel F : ℕ) (v : Venue) (n room : ℕ) → length (joined (handedFrom fuel n m s).messages) ≤ F →
-      Runs F v n room (handedFrom fuel n m s) (fedFrom fuel v n room m s)
-  fed-run zero F v n room le = unfold handedFrom fedFrom in (runs-stop F v n room 0)
+  fed-run : (fuel F : ℕ) (v : Venue) (n room : ℕ) → length (joined (handed_from fuel n m s).messages) ≤ F →
+      Runs F v n room (handed_from fuel n m s) (fed_from fuel v n room m s)
+  fed-run zero F v n room le = unfold handed_from fed_from in (runs-stop F v n room 0)
   fed-run (suc fuel) F v n room le = go (next (suc n) m s) refl (λ G w left k. fed-run fuel G w (suc n) left k)
     where
       go : (x : Next) → next (suc n) m s ≡ x →
-          ((G : ℕ) (w : Venue) (left : ℕ) → length (joined (handedFrom fuel (suc n) m s).messages) ≤ G → Runs G w (suc n) left (handedFrom fuel (suc n) m s) (fedFrom fuel w (suc n) left m s)) →
-          Runs F v n room (handedFrom (suc fuel) n m s) (fedFrom (suc fuel) v n room m s)
+          ((G : ℕ) (w : Venue) (left : ℕ) → length (joined (handed_from fuel (suc n) m s).messages) ≤ G → Runs G w (suc n) left (handed_from fuel (suc n) m s) (fed_from fuel w (suc n) left m s)) →
+          Runs F v n room (handed_from (suc fuel) n m s) (fed_from (suc fuel) v n room m s)
       go (stop k) e on = rw (handed-stop fuel n m s k e, fed-stop fuel v n room m s k e) (runs-stop F v n room k)
       go (message bs) e on =
           rw (handed-on fuel n m s bs e, fed-on fuel v n room m s bs e)
-          (runs-first F v n room bs (handedFrom fuel (suc n) m s) (λ w left. fedFrom fuel w (suc n) left m s) (all (suc n) bs e)
+          (runs-first F v n room bs (handed_from fuel (suc n) m s) (λ w left. fed_from fuel w (suc n) left m s) (all (suc n) bs e)
           (subst (λ (h : Handed). length (joined h.messages) ≤ F) (handed-on fuel n m s bs e) le) on)
 
   -- of two lines that rise
   pub feed-is : (room : ℕ) (main spare : List ℕ) → m ≡ parts_of main → s ≡ parts_of spare → faultless main ≡ true → faultless spare ≡ true →
-      called room (fedFrom (length main + length spare) freshVenue 0 room m s) ≡ feed room main spare
+      called room (fed_from (length main + length spare) fresh_venue 0 room m s) ≡ feed room main spare
   unfolding feed handed run Runs
   feed-is room main spare a b c d =
       rw (c, d, sym a, sym b)
-      (ap (called room) (fed-run (length main + length spare) _ freshVenue 0 room (omega arith)) ∙ sym (numbered-called _ room _))
+      (ap (called room) (fed-run (length main + length spare) _ fresh_venue 0 room (omega arith)) ∙ sym (numbered-called _ room _))
 
 -- a line that does not
-pub feed-not : (room : ℕ) (main spare : List ℕ) → (faultless main && faultless spare) ≡ false → called room (ends 21 freshVenue) ≡ feed room main spare
+pub feed-not : (room : ℕ) (main spare : List ℕ) → (faultless main && faultless spare) ≡ false → called room (ends 21 fresh_venue) ≡ feed room main spare
 unfolding feed handed run stopped joined run_from
-feed-not room main spare e = rw e (sym (numbered-called 21 room (ends 0 freshVenue) ∙ ap (called room) (unfold ending ends in refl)))
+feed-not room main spare e = rw e (sym (numbered-called 21 room (ends 0 fresh_venue) ∙ ap (called room) (unfold ending ends in refl)))

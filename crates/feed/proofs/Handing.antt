@@ -5,7 +5,7 @@ use mathlib.Core.List.{List, [], ◌∷◌}
 use Prim.Native.Nat.{ℕ, zero, suc, ◌<◌}
 use native.Mathlib.Omega.{arith}
 use borrow.Author.Tests.{le-ltb, ne_eqb, eq-eqb}
-use Rattle.feed.specs.Feed.{Part, under, later, same, Next, message, stop, next, stopped, first, handedFrom}
+use Rattle.feed.specs.Feed.{Part, under, later, same, Next, message, stop, next, stopped, first, handed_from}
 
 -- of a part that is passed nothing comes any more
 module _ (p : Part) (ps : List Part) (k : ℕ) (h : p.number < k) where
@@ -31,20 +31,20 @@ next-as k m m' s s' a b c d = rw (a, b, c, d)
 
 -- one number
 module _ (fuel n : ℕ) (m s : List Part) where
-  pub handed-on : (bs : List ℕ) → next (suc n) m s ≡ message bs → handedFrom (suc fuel) n m s ≡ first bs (handedFrom fuel (suc n) m s)
-  unfolding handedFrom
-  handed-on bs e = rw (e, handedFrom)
+  pub handed-on : (bs : List ℕ) → next (suc n) m s ≡ message bs → handed_from (suc fuel) n m s ≡ first bs (handed_from fuel (suc n) m s)
+  unfolding handed_from
+  handed-on bs e = rw (e, handed_from)
 
-  pub handed-stop : (k : ℕ) → next (suc n) m s ≡ stop k → handedFrom (suc fuel) n m s ≡ stopped k
-  unfolding handedFrom
-  handed-stop k e = rw (e, handedFrom)
+  pub handed-stop : (k : ℕ) → next (suc n) m s ≡ stop k → handed_from (suc fuel) n m s ≡ stopped k
+  unfolding handed_from
+  handed-stop k e = rw (e, handed_from)
 
 -- two pairs of lines of which the same comes hand the same list out
-pub handed-as : (fuel n : ℕ) (m m' s s' : List Part) → ((k : ℕ) → n < k → next k m s ≡ next k m' s') → handedFrom fuel n m s ≡ handedFrom fuel n m' s'
-handed-as zero n m m' s s' e = unfold handedFrom in refl
+pub handed-as : (fuel n : ℕ) (m m' s s' : List Part) → ((k : ℕ) → n < k → next k m s ≡ next k m' s') → handed_from fuel n m s ≡ handed_from fuel n m' s'
+handed-as zero n m m' s s' e = unfold handed_from in refl
 handed-as (suc fuel) n m m' s s' e = go (handed-as fuel (suc n) m m' s s' (λ k h. e k (omega arith))) (next (suc n) m s) refl
   where
-    go : handedFrom fuel (suc n) m s ≡ handedFrom fuel (suc n) m' s' → (x : Next) → next (suc n) m s ≡ x → handedFrom (suc fuel) n m s ≡ handedFrom (suc fuel) n m' s'
+    go : handed_from fuel (suc n) m s ≡ handed_from fuel (suc n) m' s' → (x : Next) → next (suc n) m s ≡ x → handed_from (suc fuel) n m s ≡ handed_from (suc fuel) n m' s'
     go rest (message bs) f =
         handed-on fuel n m s bs f ∙ ap (first bs) rest
         ∙ sym (handed-on fuel n m' s' bs (sym (e (suc n) (omega arith)) ∙ f))

@@ -9,35 +9,35 @@ use lib.ListN.{length, take, drop, length-append}
 use lib.Seq.{take-append_seam, drop-append_seam, drop-drop}
 use borrow.Author.Tests.{le-ltb, lt-leb, ne_eqb, eq-eqb, eqb-true}
 use Rattle.rules.specs.Base.{if◌then◌else◌}
-use Rattle.rules.specs.Bytes.{u8_at, u16At, u32_at, lengthField, bytes, u32}
+use Rattle.rules.specs.Bytes.{u8_at, u16_at, u32_at, length_field, bytes, u32}
 use Rattle.rules.specs.Calls.{Call, run}
 use Rattle.rules.proofs.Front.{length-same}
 use Rattle.rules.proofs.Reading.{word}
 use Rattle.rules.proofs.RefusalsLaws.{whole_in}
-use Rattle.feed.specs.Feed.{number_of, messageIn, behind, faulty, faultless, faultlessFrom, Part, parts_of, partsFrom, under, later, absent}
-use Rattle.feed.specs.Feed.{stands, next, nextBy, message, handedFrom, stopped, first, handed, joined, numbered, feed}
-use Rattle.feed.specs.Sent.{Sent, AllWhole, NoneLost, lineFrom, mainLine, spareLine, messages, ListHanded, ListRun}
+use Rattle.feed.specs.Feed.{number_of, message_in, behind, faulty, faultless, faultless_from, Part, parts_of, parts_from, under, later, absent}
+use Rattle.feed.specs.Feed.{stands, next, next_by, message, handed_from, stopped, first, handed, joined, numbered, feed}
+use Rattle.feed.specs.Sent.{Sent, AllWhole, NoneLost, line_from, main_line, spare_line, messages, ListHanded, ListRun}
 use Rattle.feed.proofs.Handing.{same_self, next-as, under-past, later-past, handed-on, handed-as}
 
 -- A number and a whole message in front of a line ---------------------------------------------
 
-module _ (n : ℕ) (m rest : List ℕ) (few : n < 4294967295) (four : 4 ≤ length m) (whole : lengthField m ≡ length m) where
+module _ (n : ℕ) (m rest : List ℕ) (few : n < 4294967295) (four : 4 ≤ length m) (whole : length_field m ≡ length m) where
   abbrev block : List ℕ
   block = (u32 (suc n) ++ m) ++ rest
 
   number_is : number_of block ≡ suc n
-  unfolding number_of u32_at u16At u8_at bytes
+  unfolding number_of u32_at u16_at u8_at bytes
   number_is = rw (le-ltb (length block) 4 (omega arith)) (word (suc n) (omega arith))
 
   drop-is : drop 4 block ≡ m ++ rest
   unfolding bytes
   drop-is = refl
 
-  field_is : lengthField (drop 4 block) ≡ length m
-  field_is = ap lengthField drop-is ∙ length-same m rest (omega arith) ∙ whole
+  field_is : length_field (drop 4 block) ≡ length m
+  field_is = ap length_field drop-is ∙ length-same m rest (omega arith) ∙ whole
 
-  message-is : messageIn block ≡ m
-  unfolding messageIn
+  message-is : message_in block ≡ m
+  unfolding message_in
   message-is = ap₂ take field_is drop-is ∙ take-append_seam m rest
 
   behind-is : behind block ≡ rest
@@ -55,13 +55,13 @@ module _ (n : ℕ) (m rest : List ℕ) (few : n < 4294967295) (four : 4 ≤ leng
   unfolding bytes
   some = ne_eqb (length block) 0 (λ e. omega arith)
 
-  faultless-block : (fuel last : ℕ) → last ≤ n → faultlessFrom (suc fuel) last block ≡ faultlessFrom fuel (suc n) rest
-  unfolding faultlessFrom
-  faultless-block fuel last h = rw (some, fine last h, number_is, behind-is, faultlessFrom)
+  faultless-block : (fuel last : ℕ) → last ≤ n → faultless_from (suc fuel) last block ≡ faultless_from fuel (suc n) rest
+  unfolding faultless_from
+  faultless-block fuel last h = rw (some, fine last h, number_is, behind-is, faultless_from)
 
-  parts-block : (fuel : ℕ) → partsFrom (suc fuel) block ≡ record { number = suc n; message = m } ∷ partsFrom fuel rest
-  unfolding partsFrom
-  parts-block fuel = rw (some, number_is, message-is, behind-is, partsFrom)
+  parts-block : (fuel : ℕ) → parts_from (suc fuel) block ≡ record { number = suc n; message = m } ∷ parts_from fuel rest
+  unfolding parts_from
+  parts-block fuel = rw (some, number_is, message-is, behind-is, parts_from)
 
   block-length : length block ≡ 4 + length m + length rest
   unfolding bytes
@@ -69,26 +69,26 @@ module _ (n : ℕ) (m rest : List ℕ) (few : n < 4294967295) (four : 4 ≤ leng
 
 -- A line is read back -------------------------------------------------------------------------
 
-abbrev sentParts : (on : Sent → Bool) → (n : ℕ) → List Sent → List Part
-sentParts on n [] = []
-sentParts on n (x ∷ xs) = (if on x then record { number = suc n; message = x.message } ∷ [] else []) ++ sentParts on (suc n) xs
+abbrev sent_parts : (on : Sent → Bool) → (n : ℕ) → List Sent → List Part
+sent_parts on n [] = []
+sent_parts on n (x ∷ xs) = (if on x then record { number = suc n; message = x.message } ∷ [] else []) ++ sent_parts on (suc n) xs
 
 -- both readings of a line, at once
 abbrev Reads : (fuel last : ℕ) (bs : List ℕ) (ps : List Part) → Type 0
-Reads fuel last bs ps = (faultlessFrom fuel last bs ≡ true) × (partsFrom fuel bs ≡ ps)
+Reads fuel last bs ps = (faultless_from fuel last bs ≡ true) × (parts_from fuel bs ≡ ps)
 
 reads_none : (fuel last : ℕ) → Reads fuel last [] []
-unfolding faultlessFrom partsFrom
+unfolding faultless_from parts_from
 reads_none zero last = (refl, refl)
 reads_none (suc fuel) last = (refl, refl)
 
-reads-block : (fuel last n : ℕ) (m rest : List ℕ) (ps : List Part) → n < 4294967295 → 4 ≤ length m → lengthField m ≡ length m → last ≤ n →
+reads-block : (fuel last n : ℕ) (m rest : List ℕ) (ps : List Part) → n < 4294967295 → 4 ≤ length m → length_field m ≡ length m → last ≤ n →
     Reads fuel (suc n) rest ps → Reads (suc fuel) last ((u32 (suc n) ++ m) ++ rest) (record { number = suc n; message = m } ∷ ps)
 reads-block fuel last n m rest ps few four whole h r =
     (faultless-block n m rest few four whole fuel last h ∙ r.0, parts-block n m rest few four whole fuel ∙ ap (λ (q : List Part). record { number = suc n; message = m } ∷ q) r.1)
 
 -- one message more, which came over the line or did not
-reads_more : (t : Bool) (fuel last n : ℕ) (m rest : List ℕ) (ps : List Part) → n < 4294967295 → 4 ≤ length m → lengthField m ≡ length m → last ≤ n →
+reads_more : (t : Bool) (fuel last n : ℕ) (m rest : List ℕ) (ps : List Part) → n < 4294967295 → 4 ≤ length m → length_field m ≡ length m → last ≤ n →
     length ((if t then u32 (suc n) ++ m else []) ++ rest) ≤ fuel → ((f l : ℕ) → length rest ≤ f → l ≤ suc n → Reads f l rest ps) →
     Reads fuel last ((if t then u32 (suc n) ++ m else []) ++ rest) ((if t then record { number = suc n; message = m } ∷ [] else []) ++ ps)
 reads_more false fuel last n m rest ps few four whole h le r = r fuel last le (omega arith)
@@ -97,23 +97,23 @@ reads_more true (suc fuel) last n m rest ps few four whole h le r =
     let z = block-length n m rest few four whole in
     reads-block fuel last n m rest ps few four whole h (r fuel (suc n) (omega arith) (omega arith))
 
-reads-line : (on : Sent → Bool) (fuel last n : ℕ) (xs : List Sent) → length (lineFrom on n xs) ≤ fuel → last ≤ n → n + length xs ≤ 4294967295 → AllWhole xs →
-    Reads fuel last (lineFrom on n xs) (sentParts on n xs)
-unfolding lineFrom
+reads-line : (on : Sent → Bool) (fuel last n : ℕ) (xs : List Sent) → length (line_from on n xs) ≤ fuel → last ≤ n → n + length xs ≤ 4294967295 → AllWhole xs →
+    Reads fuel last (line_from on n xs) (sent_parts on n xs)
+unfolding line_from
 reads-line on fuel last n [] le h few w = reads_none fuel last
 reads-line on fuel last n (x ∷ xs) le h few w =
-    reads_more (on x) fuel last n x.message (lineFrom on (suc n) xs) (sentParts on (suc n) xs) (omega arith) w.0.0 w.0.1 h le
+    reads_more (on x) fuel last n x.message (line_from on (suc n) xs) (sent_parts on (suc n) xs) (omega arith) w.0.0 w.0.1 h le
     (λ f l k j. reads-line on f l (suc n) xs k j (omega arith) w.1)
 
 -- The list is handed out ----------------------------------------------------------------------
 
 -- none of the numbers sent before
-none-under : (on : Sent → Bool) (n k : ℕ) (xs : List Sent) → k ≤ n → under k (sentParts on n xs) ≡ absent
+none-under : (on : Sent → Bool) (n k : ℕ) (xs : List Sent) → k ≤ n → under k (sent_parts on n xs) ≡ absent
 none-under on n k [] h = unfold under in refl
 none-under on n k (x ∷ xs) h = go (on x) (none-under on (suc n) k xs (omega arith))
   where
-    go : (t : Bool) → under k (sentParts on (suc n) xs) ≡ absent →
-        under k ((if t then record { number = suc n; message = x.message } ∷ [] else []) ++ sentParts on (suc n) xs) ≡ absent
+    go : (t : Bool) → under k (sent_parts on (suc n) xs) ≡ absent →
+        under k ((if t then record { number = suc n; message = x.message } ∷ [] else []) ++ sent_parts on (suc n) xs) ≡ absent
     go false e = e
     go true e = unfold under in (rw (ne_eqb (suc n) k (λ z. omega arith)) e)
 
@@ -124,22 +124,22 @@ unfolding under
 under_one true n m ps e = rw (eq-eqb (suc n) (suc n) refl)
 under_one false n m ps e = e
 
-by-either : (a b : Bool) (m : List ℕ) (t : Bool) → (a || b) ≡ true → nextBy (if a then stands m else absent) (if b then stands m else absent) t ≡ message m
-unfolding nextBy
+by-either : (a b : Bool) (m : List ℕ) (t : Bool) → (a || b) ≡ true → next_by (if a then stands m else absent) (if b then stands m else absent) t ≡ message m
+unfolding next_by
 by-either true true m t e = rw (same_self m)
 by-either true false m t e = refl
 by-either false true m t e = refl
 by-either false false m t e = absurd (true≢false (sym e))
 
-next-sent : (n : ℕ) (x : Sent) (xs : List Sent) → (x.onMain || x.onSpare) ≡ true →
-    next (suc n) (sentParts (λ y. y.onMain) n (x ∷ xs)) (sentParts (λ y. y.onSpare) n (x ∷ xs)) ≡ message x.message
+next-sent : (n : ℕ) (x : Sent) (xs : List Sent) → (x.on_main || x.on_spare) ≡ true →
+    next (suc n) (sent_parts (λ y. y.on_main) n (x ∷ xs)) (sent_parts (λ y. y.on_spare) n (x ∷ xs)) ≡ message x.message
 unfolding next
 next-sent n x xs e =
     rw (
-      under_one x.onMain n x.message (sentParts (λ y. y.onMain) (suc n) xs) (none-under (λ y. y.onMain) (suc n) (suc n) xs (omega arith)),
-      under_one x.onSpare n x.message (sentParts (λ y. y.onSpare) (suc n) xs) (none-under (λ y. y.onSpare) (suc n) (suc n) xs (omega arith)),
+      under_one x.on_main n x.message (sent_parts (λ y. y.on_main) (suc n) xs) (none-under (λ y. y.on_main) (suc n) (suc n) xs (omega arith)),
+      under_one x.on_spare n x.message (sent_parts (λ y. y.on_spare) (suc n) xs) (none-under (λ y. y.on_spare) (suc n) (suc n) xs (omega arith)),
     )
-    (by-either x.onMain x.onSpare x.message _ e)
+    (by-either x.on_main x.on_spare x.message _ e)
 
 -- once it is handed out nothing comes of it any more
 under-gone : (t : Bool) (n k : ℕ) (m : List ℕ) (ps : List Part) → suc n < k →
@@ -148,16 +148,16 @@ under-gone true n k m ps h = (under-past _ ps k h, later-past _ ps k h)
 under-gone false n k m ps h = (refl, refl)
 
 gone : (n k : ℕ) (x : Sent) (xs : List Sent) → suc n < k →
-    next k (sentParts (λ y. y.onMain) n (x ∷ xs)) (sentParts (λ y. y.onSpare) n (x ∷ xs)) ≡ next k (sentParts (λ y. y.onMain) (suc n) xs) (sentParts (λ y. y.onSpare) (suc n) xs)
+    next k (sent_parts (λ y. y.on_main) n (x ∷ xs)) (sent_parts (λ y. y.on_spare) n (x ∷ xs)) ≡ next k (sent_parts (λ y. y.on_main) (suc n) xs) (sent_parts (λ y. y.on_spare) (suc n) xs)
 gone n k x xs h =
-    let a = under-gone x.onMain n k x.message (sentParts (λ y. y.onMain) (suc n) xs) h in
-    let b = under-gone x.onSpare n k x.message (sentParts (λ y. y.onSpare) (suc n) xs) h in
+    let a = under-gone x.on_main n k x.message (sent_parts (λ y. y.on_main) (suc n) xs) h in
+    let b = under-gone x.on_spare n k x.message (sent_parts (λ y. y.on_spare) (suc n) xs) h in
     next-as k _ _ _ _ a.0 b.0 a.1 b.1
 
 sent-handed : (fuel n : ℕ) (xs : List Sent) → length xs ≤ fuel → NoneLost xs →
-    handedFrom fuel n (sentParts (λ y. y.onMain) n xs) (sentParts (λ y. y.onSpare) n xs) ≡ record { messages = messages xs; number = 0 }
-sent-handed zero n [] le c = unfold handedFrom stopped in refl
-sent-handed (suc fuel) n [] le c = unfold handedFrom stopped next nextBy under later in refl
+    handed_from fuel n (sent_parts (λ y. y.on_main) n xs) (sent_parts (λ y. y.on_spare) n xs) ≡ record { messages = messages xs; number = 0 }
+sent-handed zero n [] le c = unfold handed_from stopped in refl
+sent-handed (suc fuel) n [] le c = unfold handed_from stopped next next_by under later in refl
 sent-handed zero n (x ∷ xs) le c = absurd (omega arith)
 sent-handed (suc fuel) n (x ∷ xs) le c =
     handed-on fuel n _ _ x.message (next-sent n x xs c.0)
@@ -176,16 +176,16 @@ enough-one true b n m r q k e h = go b
 enough-one false true n m r q k e h = simp length-append (omega arith)
 enough-one false false n m r q k e h = absurd (true≢false (sym e))
 
-enough : (n : ℕ) (xs : List Sent) → NoneLost xs → length xs ≤ length (lineFrom (λ y. y.onMain) n xs) + length (lineFrom (λ y. y.onSpare) n xs)
-unfolding lineFrom
+enough : (n : ℕ) (xs : List Sent) → NoneLost xs → length xs ≤ length (line_from (λ y. y.on_main) n xs) + length (line_from (λ y. y.on_spare) n xs)
+unfolding line_from
 enough n [] c = omega arith
-enough n (x ∷ xs) c = enough-one x.onMain x.onSpare n x.message _ _ (length xs) c.0 (enough (suc n) xs c.1)
+enough n (x ∷ xs) c = enough-one x.on_main x.on_spare n x.message _ _ (length xs) c.0 (enough (suc n) xs c.1)
 
 pub list-handed : ListHanded
 unfolding handed faultless parts_of
 list-handed sent few w c =
-    let a = reads-line (λ y. y.onMain) (length (mainLine sent)) 0 0 sent (omega arith) (omega arith) (omega arith) w in
-    let b = reads-line (λ y. y.onSpare) (length (spareLine sent)) 0 0 sent (omega arith) (omega arith) (omega arith) w in
+    let a = reads-line (λ y. y.on_main) (length (main_line sent)) 0 0 sent (omega arith) (omega arith) (omega arith) w in
+    let b = reads-line (λ y. y.on_spare) (length (spare_line sent)) 0 0 sent (omega arith) (omega arith) (omega arith) w in
     rw (a.0, b.0, a.1, b.1) (sent-handed _ 0 sent (enough 0 sent c) c)
 
 -- a run that came to its end keeps its number

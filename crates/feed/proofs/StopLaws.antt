@@ -10,13 +10,13 @@ use lib.ListN.{length, drop, length-drop}
 use borrow.Author.Tests.{eqb-true, eqb-false, ltb-false, ne_eqb}
 use Rattle.rules.specs.declared.Venue.{Venue}
 use Rattle.rules.specs.Base.{if◌then◌else◌}
-use Rattle.rules.specs.Words.{freshVenue}
+use Rattle.rules.specs.Words.{fresh_venue}
 use Rattle.rules.specs.Step.{step}
 use Rattle.rules.specs.Calls.{Call, Outcome, after, called, ends, exceeds}
 use Rattle.rules.proofs.Tests.{and_l, and_r, or-false-l, or-false-r}
-use Rattle.feed.specs.Feed.{faultless, Part, parts_of, Under, absent, stands, under, later, same, Next, message, stop, nextBy, next, Handed, stopped, first, handedFrom, handed, feed}
-use Rattle.feed.specs.Cursors.{stopOf, advanceOf}
-use Rattle.feed.specs.Turns.{fedFrom, hands}
+use Rattle.feed.specs.Feed.{faultless, Part, parts_of, Under, absent, stands, under, later, same, Next, message, stop, next_by, next, Handed, stopped, first, handed_from, handed, feed}
+use Rattle.feed.specs.Cursors.{stop_of, advance_of}
+use Rattle.feed.specs.Turns.{fed_from, hands}
 use Rattle.feed.specs.Stops.{StopsThere, NoneLeft, NeverTorn}
 use Rattle.feed.proofs.Handing.{handed-on, handed-stop}
 use Rattle.feed.proofs.FeedRuns.{hands-full, hands_more, fed-on, fed-stop, feed-is, feed-not}
@@ -50,44 +50,44 @@ module _ (m s : List Part) where
             absurd (stop-not 0 x (sym (next-end n bs cs m s g h (omega arith) (omega arith)) ∙ e))
         go false f = let z = eqb-false (length bs + length cs) 0 f in omega arith
 
-    not_stopped : (x : List ℕ) → next (suc n) m s ≡ message x → stopOf (suc n) bs cs ≡ 0
-    not_stopped x e = go (eqb (stopOf (suc n) bs cs) 0) refl
+    not_stopped : (x : List ℕ) → next (suc n) m s ≡ message x → stop_of (suc n) bs cs ≡ 0
+    not_stopped x e = go (eqb (stop_of (suc n) bs cs) 0) refl
       where
-        go : (t : Bool) → eqb (stopOf (suc n) bs cs) 0 ≡ t → stopOf (suc n) bs cs ≡ 0
-        go true f = eqb-true (stopOf (suc n) bs cs) 0 f
+        go : (t : Bool) → eqb (stop_of (suc n) bs cs) 0 ≡ t → stop_of (suc n) bs cs ≡ 0
+        go true f = eqb-true (stop_of (suc n) bs cs) 0 f
         go false f =
-            absurd (stop-not (stopOf (suc n) bs cs) x
-            (sym (next_up n bs cs m s g h (some_left x e) ∙ up-stop (suc n) bs cs (stopOf (suc n) bs cs) refl (eqb-false (stopOf (suc n) bs cs) 0 f)) ∙ e))
+            absurd (stop-not (stop_of (suc n) bs cs) x
+            (sym (next_up n bs cs m s g h (some_left x e) ∙ up-stop (suc n) bs cs (stop_of (suc n) bs cs) refl (eqb-false (stop_of (suc n) bs cs) 0 f)) ∙ e))
 
     less-left : (x : List ℕ) → next (suc n) m s ≡ message x →
-        length (drop (advanceOf (suc n) bs) bs) + length (drop (advanceOf (suc n) cs) cs) < length bs + length cs
+        length (drop (advance_of (suc n) bs) bs) + length (drop (advance_of (suc n) cs) cs) < length bs + length cs
     less-left x e =
         let a = some-move (suc n) bs cs (not_stopped x e) in
         let b = advance-within n bs (ahead-ready n bs m g) in
         let c = advance-within n cs (ahead-ready n cs s h) in
-        let j = length-drop (advanceOf (suc n) bs) bs in
-        let k = length-drop (advanceOf (suc n) cs) cs in
+        let j = length-drop (advance_of (suc n) bs) bs in
+        let k = length-drop (advance_of (suc n) cs) cs in
         omega arith
 
-  stops-from : (fuel n : ℕ) (bs cs : List ℕ) → Ahead n bs m → Ahead n cs s → length bs + length cs ≤ fuel → Stops n (handedFrom fuel n m s)
-  stops-from zero n bs cs g h le = unfold handedFrom in (stops-here n 0 (next-end n bs cs m s g h (omega arith) (omega arith)))
+  stops-from : (fuel n : ℕ) (bs cs : List ℕ) → Ahead n bs m → Ahead n cs s → length bs + length cs ≤ fuel → Stops n (handed_from fuel n m s)
+  stops-from zero n bs cs g h le = unfold handed_from in (stops-here n 0 (next-end n bs cs m s g h (omega arith) (omega arith)))
   stops-from (suc fuel) n bs cs g h le = go (next (suc n) m s) refl (λ ds es i j k. stops-from fuel (suc n) ds es i j k)
     where
       go : (x : Next) → next (suc n) m s ≡ x →
-          ((ds es : List ℕ) → Ahead (suc n) ds m → Ahead (suc n) es s → length ds + length es ≤ fuel → Stops (suc n) (handedFrom fuel (suc n) m s)) →
-          Stops n (handedFrom (suc fuel) n m s)
+          ((ds es : List ℕ) → Ahead (suc n) ds m → Ahead (suc n) es s → length ds + length es ≤ fuel → Stops (suc n) (handed_from fuel (suc n) m s)) →
+          Stops n (handed_from (suc fuel) n m s)
       go (stop k) e on = subst (Stops n) (sym (handed-stop fuel n m s k e)) (stops-here n k e)
       go (message x) e on =
           let l = less-left n bs cs g h x e in
           subst (Stops n) (sym (handed-on fuel n m s x e))
-          (stops_first n x (handedFrom fuel (suc n) m s) (on _ _ (ahead-moved n bs m g) (ahead-moved n cs s h) (omega arith)))
+          (stops_first n x (handed_from fuel (suc n) m s) (on _ _ (ahead-moved n bs m g) (ahead-moved n cs s h) (omega arith)))
 
 pub stops-there : StopsThere
 unfolding handed
 stops-there main spare e =
     let a = and_l (faultless main) (faultless spare) e in
     let b = and_r (faultless main) (faultless spare) e in
-    let n = length (handedFrom (length main + length spare) 0 (parts_of main) (parts_of spare)).messages in
+    let n = length (handed_from (length main + length spare) 0 (parts_of main) (parts_of spare)).messages in
     let z : suc n ≡ suc (0 + n) = omega arith in
     rw e (ap (λ (j : ℕ). next j (parts_of main) (parts_of spare)) z
     ∙ stops-from (parts_of main) (parts_of spare) (length main + length spare) 0 main spare (ahead-start main a) (ahead-start spare b) (omega arith))
@@ -112,8 +112,8 @@ stop-same j k e = ap out e
     out (message x) = j
 
 -- the handing out comes to its end where neither line has the number and no later one stands
-ended : (x y : Under) (l : Bool) → nextBy x y l ≡ stop 0 → (x ≡ absent) × (y ≡ absent) × (l ≡ false)
-unfolding nextBy
+ended : (x y : Under) (l : Bool) → next_by x y l ≡ stop 0 → (x ≡ absent) × (y ≡ absent) × (l ≡ false)
+unfolding next_by
 ended (stands a) (stands b) l e = go (same a b) e
   where
     go : (t : Bool) → (if t then message a else stop 19) ≡ stop 0 → (stands a ≡ absent) × (stands b ≡ absent) × (l ≡ false)
@@ -156,8 +156,8 @@ none_left main spare z k h =
 -- Never 1 -------------------------------------------------------------------------------------
 
 -- what stops the handing out is no 1
-stop-by : (a b : Under) (ahead : Bool) (k : ℕ) → nextBy a b ahead ≡ stop k → k ≢ 1
-unfolding nextBy
+stop-by : (a b : Under) (ahead : Bool) (k : ℕ) → next_by a b ahead ≡ stop k → k ≢ 1
+unfolding next_by
 stop-by (stands x) (stands y) ahead k = go (same x y)
   where
     go : (t : Bool) → (if t then message x else stop 19) ≡ stop k → k ≢ 1
@@ -182,13 +182,13 @@ hands-whole v n room bs rest on = go (exceeds (suc n) room (step v (suc n) bs).e
     go true e = rw (hands-full v n room bs rest e) (unfold ends in (λ z. omega arith))
     go false e = rw (hands_more v n room bs rest e) (unfold after in (on _ _))
 
-fed-whole : (fuel : ℕ) (v : Venue) (n room : ℕ) (m s : List Part) → (fedFrom fuel v n room m s).number ≢ 1
-fed-whole zero v n room m s = unfold fedFrom ends in (λ z. omega arith)
+fed-whole : (fuel : ℕ) (v : Venue) (n room : ℕ) (m s : List Part) → (fed_from fuel v n room m s).number ≢ 1
+fed-whole zero v n room m s = unfold fed_from ends in (λ z. omega arith)
 fed-whole (suc fuel) v n room m s = go (next (suc n) m s) refl (λ w left. fed-whole fuel w (suc n) left m s)
   where
-    go : (x : Next) → next (suc n) m s ≡ x → ((w : Venue) (left : ℕ) → (fedFrom fuel w (suc n) left m s).number ≢ 1) → (fedFrom (suc fuel) v n room m s).number ≢ 1
+    go : (x : Next) → next (suc n) m s ≡ x → ((w : Venue) (left : ℕ) → (fed_from fuel w (suc n) left m s).number ≢ 1) → (fed_from (suc fuel) v n room m s).number ≢ 1
     go (stop k) e on = rw (fed-stop fuel v n room m s k e) (unfold ends in (next-stops (suc n) m s k e))
-    go (message bs) e on = rw (fed-on fuel v n room m s bs e) (hands-whole v n room bs (λ w left. fedFrom fuel w (suc n) left m s) on)
+    go (message bs) e on = rw (fed-on fuel v n room m s bs e) (hands-whole v n room bs (λ w left. fed_from fuel w (suc n) left m s) on)
 
 pub never-torn : NeverTorn
 unfolding called ends
@@ -199,5 +199,5 @@ never-torn room main spare = go (faultless main && faultless spare) refl
         let a = and_l (faultless main) (faultless spare) e in
         let b = and_r (faultless main) (faultless spare) e in
         subst (λ (c : Call). c.returned.number ≢ 1) (feed-is (parts_of main) (parts_of spare) (next-whole main spare a b) room main spare refl refl a b)
-        (fed-whole (length main + length spare) freshVenue 0 room (parts_of main) (parts_of spare))
+        (fed-whole (length main + length spare) fresh_venue 0 room (parts_of main) (parts_of spare))
     go false e = subst (λ (c : Call). c.returned.number ≢ 1) (feed-not room main spare e) (λ z. omega arith)

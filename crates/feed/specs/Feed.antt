@@ -2,7 +2,7 @@
 -- from 1 and rising on each line."
 use Rattle.std.specs.Prelude.{Bool, true, false, ◌&&◌, ◌||◌, List, [], ◌∷◌, ◌++◌, ℕ, zero, suc, ◌+◌, leb, ltb, eqb, length, take, drop}
 use Rattle.rules.specs.Base.{if◌then◌else◌}
-use Rattle.rules.specs.Bytes.{u32_at, lengthField}
+use Rattle.rules.specs.Bytes.{u32_at, length_field}
 use Rattle.rules.specs.Refusals.{torn}
 use Rattle.rules.specs.Calls.{Call, run}
 
@@ -15,11 +15,11 @@ unfoldable pub number_of : List ℕ → ℕ
 number_of bs = if ltb (length bs) 4 then 0 else u32_at bs 0
 
 -- rule: (k)1
-unfoldable pub messageIn : List ℕ → List ℕ
-messageIn bs = take (lengthField (drop 4 bs)) (drop 4 bs)
+unfoldable pub message_in : List ℕ → List ℕ
+message_in bs = take (length_field (drop 4 bs)) (drop 4 bs)
 
 unfoldable pub behind : List ℕ → List ℕ
-behind bs = drop (4 + lengthField (drop 4 bs)) bs
+behind bs = drop (4 + length_field (drop 4 bs)) bs
 
 -- 21, of what stands in front, `last` being the number before it and at first 0: "a line is torn, doesn't rise or has a length below 4 or number 0".
 -- Where the number's four bytes are not there no message follows, so that is torn too. A number that is left out is no fault.
@@ -28,31 +28,31 @@ unfoldable pub faulty : (last : ℕ) → List ℕ → Bool
 faulty last bs = leb (number_of bs) last || torn (drop 4 bs)
 
 -- nothing on the whole line is faulty; the fuel is the line's length
-unfoldable pub faultlessFrom : (fuel last : ℕ) → List ℕ → Bool
-faultlessFrom zero last bs = true
-faultlessFrom (suc fuel) last bs = elim (eqb (length bs) 0) [
+unfoldable pub faultless_from : (fuel last : ℕ) → List ℕ → Bool
+faultless_from zero last bs = true
+faultless_from (suc fuel) last bs = elim (eqb (length bs) 0) [
   | true ↦ true
-  | false ↦ elim (faulty last bs) [ true ↦ false | false ↦ faultlessFrom fuel (number_of bs) (behind bs) ]
+  | false ↦ elim (faulty last bs) [ true ↦ false | false ↦ faultless_from fuel (number_of bs) (behind bs) ]
 ]
 
 unfoldable pub faultless : List ℕ → Bool
-faultless line = faultlessFrom (length line) 0 line
+faultless line = faultless_from (length line) 0 line
 
 -- a message with its number, and all those of a faultless line
 pub record Part : Type 0 where
   pub number : ℕ
   pub message : List ℕ
 
-unfoldable pub partsFrom : (fuel : ℕ) → List ℕ → List Part
-partsFrom zero bs = []
-partsFrom (suc fuel) bs = elim (eqb (length bs) 0) [
+unfoldable pub parts_from : (fuel : ℕ) → List ℕ → List Part
+parts_from zero bs = []
+parts_from (suc fuel) bs = elim (eqb (length bs) 0) [
   | true ↦ []
-  | false ↦ record { number = number_of bs; message = messageIn bs } ∷ partsFrom fuel (behind bs)
+  | false ↦ record { number = number_of bs; message = message_in bs } ∷ parts_from fuel (behind bs)
 ]
 
 -- rule: (k)1
 unfoldable pub parts_of : List ℕ → List Part
-parts_of line = partsFrom (length line) line
+parts_of line = parts_from (length line) line
 
 -- The next number -----------------------------------------------------------------------------
 
@@ -87,15 +87,15 @@ pub data Next : Type 0 where
 -- "The next number's message is handed to the engine as a part of whichever line's memory has it, main first." "19, both lines have the number but their
 -- bytes differ; 20, neither has it though a later one stands on either line".
 -- rule: (k)2
-unfoldable pub nextBy : (main spare : Under) → (ahead : Bool) → Next
-nextBy (stands a) (stands b) ahead = if same a b then message a else stop 19
-nextBy (stands a) absent ahead = message a
-nextBy absent (stands b) ahead = message b
-nextBy absent absent ahead = if ahead then stop 20 else stop 0
+unfoldable pub next_by : (main spare : Under) → (ahead : Bool) → Next
+next_by (stands a) (stands b) ahead = if same a b then message a else stop 19
+next_by (stands a) absent ahead = message a
+next_by absent (stands b) ahead = message b
+next_by absent absent ahead = if ahead then stop 20 else stop 0
 
 -- rule: (k)2
 unfoldable pub next : (number : ℕ) → (main spare : List Part) → Next
-next n m s = nextBy (under n m) (under n s) (later n m || later n s)
+next n m s = next_by (under n m) (under n s) (later n m || later n s)
 
 -- The call ------------------------------------------------------------------------------------
 
@@ -112,15 +112,15 @@ first m h = record { messages = m ∷ h.messages; number = h.number }
 
 -- "as its number comes up, and what went before stands": the messages from number n + 1 on. The fuel is the length of both lines, since each message
 -- handed out stands on one of them (Stops: it is enough).
-unfoldable pub handedFrom : (fuel n : ℕ) → (main spare : List Part) → Handed
-handedFrom zero n m s = stopped 0
-handedFrom (suc fuel) n m s = elim (next (suc n) m s) [ message bs ↦ first bs (handedFrom fuel (suc n) m s) | stop k ↦ stopped k ]
+unfoldable pub handed_from : (fuel n : ℕ) → (main spare : List Part) → Handed
+handed_from zero n m s = stopped 0
+handed_from (suc fuel) n m s = elim (next (suc n) m s) [ message bs ↦ first bs (handed_from fuel (suc n) m s) | stop k ↦ stopped k ]
 
 -- "21 first, from both whole lines, with nothing handed out; then 19 or 20".
 -- rule: (k)4
 unfoldable pub handed : (main spare : List ℕ) → Handed
 handed main spare =
-    if faultless main && faultless spare then handedFrom (length main + length spare) 0 (parts_of main) (parts_of spare) else stopped 21
+    if faultless main && faultless spare then handed_from (length main + length spare) 0 (parts_of main) (parts_of spare) else stopped 21
 
 -- messages one after another, as a run reads them
 unfoldable pub joined : List (List ℕ) → List ℕ

@@ -2,19 +2,19 @@
 -- list is handed out, up to a 10."
 use Rattle.std.specs.Prelude.{◌≡◌, Bool, true, ◌||◌, List, [], ◌∷◌, ◌++◌, map, ℕ, suc, ◌≤◌, length}
 use Rattle.rules.specs.Base.{if◌then◌else◌}
-use Rattle.rules.specs.Bytes.{u32, lengthField}
+use Rattle.rules.specs.Bytes.{u32, length_field}
 use Rattle.rules.specs.Calls.{run}
 use Rattle.feed.specs.Feed.{handed, joined, feed}
 
 -- a message that was sent, and over which lines it came
 pub record Sent : Type 0 where
   pub message : List ℕ
-  pub onMain : Bool
-  pub onSpare : Bool
+  pub on_main : Bool
+  pub on_spare : Bool
 
 -- "whole messages": the length that each begins with is its own
 abbrev pub WholeMessage : List ℕ → Type 0
-WholeMessage m = (4 ≤ length m) × (lengthField m ≡ length m)
+WholeMessage m = (4 ≤ length m) × (length_field m ≡ length m)
 
 abbrev pub AllWhole : List Sent → Type 0
 AllWhole [] = Unit {0}
@@ -23,18 +23,18 @@ AllWhole (x ∷ xs) = WholeMessage x.message × AllWhole xs
 -- "no message was lost from both"
 abbrev pub NoneLost : List Sent → Type 0
 NoneLost [] = Unit {0}
-NoneLost (x ∷ xs) = ((x.onMain || x.onSpare) ≡ true) × NoneLost xs
+NoneLost (x ∷ xs) = ((x.on_main || x.on_spare) ≡ true) × NoneLost xs
 
 -- "numbered without gaps": a line of those that came over it, n having been sent before
-unfoldable pub lineFrom : (on : Sent → Bool) → (n : ℕ) → List Sent → List ℕ
-lineFrom on n [] = []
-lineFrom on n (x ∷ xs) = (if on x then u32 (suc n) ++ x.message else []) ++ lineFrom on (suc n) xs
+unfoldable pub line_from : (on : Sent → Bool) → (n : ℕ) → List Sent → List ℕ
+line_from on n [] = []
+line_from on n (x ∷ xs) = (if on x then u32 (suc n) ++ x.message else []) ++ line_from on (suc n) xs
 
-abbrev pub mainLine : List Sent → List ℕ
-mainLine = lineFrom (λ x. x.onMain) 0
+abbrev pub main_line : List Sent → List ℕ
+main_line = line_from (λ x. x.on_main) 0
 
-abbrev pub spareLine : List Sent → List ℕ
-spareLine = lineFrom (λ x. x.onSpare) 0
+abbrev pub spare_line : List Sent → List ℕ
+spare_line = line_from (λ x. x.on_spare) 0
 
 abbrev pub messages : List Sent → List (List ℕ)
 messages = map (λ x. x.message)
@@ -43,10 +43,10 @@ messages = map (λ x. x.message)
 -- rule: (k)3
 abbrev pub ListHanded : Type 0
 ListHanded = (sent : List Sent) → length sent ≤ 4294967295 → AllWhole sent → NoneLost sent →
-    handed (mainLine sent) (spareLine sent) ≡ record { messages = messages sent; number = 0 }
+    handed (main_line sent) (spare_line sent) ≡ record { messages = messages sent; number = 0 }
 
 -- so the call returns what a run of the list returns, which ends at a 10
 -- rule: (k)3
 abbrev pub ListRun : Type 0
 ListRun = (room : ℕ) (sent : List Sent) → length sent ≤ 4294967295 → AllWhole sent → NoneLost sent →
-    feed room (mainLine sent) (spareLine sent) ≡ run room (joined (messages sent))
+    feed room (main_line sent) (spare_line sent) ≡ run room (joined (messages sent))

@@ -1,14 +1,14 @@
 -- Document 02, (k), at work: lines of one list with losses, then each way in which 19, 20 and 21 come, and a 10 beside them.
 use Rattle.std.specs.Prelude.{◌≡◌, refl, true, false, List, [], ◌∷◌, ◌++◌, map, ℕ, take}
 use Rattle.rules.specs.declared.Message.TheVariants.{Cancel, Sweep}
-use Rattle.rules.specs.Words.{freshVenue}
+use Rattle.rules.specs.Words.{fresh_venue}
 use Rattle.rules.specs.Bytes.{u32, framed}
-use Rattle.rules.specs.Messages.{encodeMessage}
+use Rattle.rules.specs.Messages.{encode_message}
 use Rattle.rules.specs.Records.{Report, answer}
 use Rattle.rules.specs.Calls.{Call, called}
 use Rattle.rules.specs.Opened.{opened-rules}
-use Rattle.feed.specs.Feed.{number_of, messageIn, behind, faulty, faultlessFrom, faultless, partsFrom, parts_of, under, later, same, nextBy, next, stopped, first, handedFrom, handed, joined, numbered, feed}
-use Rattle.feed.specs.Sent.{Sent, lineFrom, mainLine, spareLine}
+use Rattle.feed.specs.Feed.{number_of, message_in, behind, faulty, faultless_from, faultless, parts_from, parts_of, under, later, same, next_by, next, stopped, first, handed_from, handed, joined, numbered, feed}
+use Rattle.feed.specs.Sent.{Sent, line_from, main_line, spare_line}
 
 -- a main and a spare line, and a report memory of a length: the call's number, the messages done, and their records. The messages leave the venue fresh.
 pub record Trial : Type 0 where
@@ -23,14 +23,14 @@ pub outcome : Trial → Call
 outcome t = feed t.room t.main t.spare
 
 pub expected : Trial → Call
-expected t = called t.room (record { number = t.number; done = t.done; venue = freshVenue; reports = t.reports })
+expected t = called t.room (record { number = t.number; done = t.done; venue = fresh_venue; reports = t.reports })
 
 -- A sweep is accepted, and the cancel of an order that does not rest is refused: a record of 12 bytes for each.
 sweeps : List ℕ
-sweeps = encodeMessage Sweep
+sweeps = encode_message Sweep
 
 cancels : (id : ℕ) → List ℕ
-cancels id = encodeMessage (Cancel id)
+cancels id = encode_message (Cancel id)
 
 -- a message after its number
 at : (number : ℕ) → List ℕ → List ℕ
@@ -129,19 +129,19 @@ full =
 -- The lines of a list sent: the first message came over the main line, the second over the spare one, the third over both, and the fourth over none.
 sent : List Sent
 sent =
-    record { message = sweeps; onMain = true; onSpare = false }
-    ∷ record { message = cancels 9; onMain = false; onSpare = true }
-    ∷ record { message = sweeps; onMain = true; onSpare = true }
-    ∷ record { message = cancels 8; onMain = false; onSpare = false }
+    record { message = sweeps; on_main = true; on_spare = false }
+    ∷ record { message = cancels 9; on_main = false; on_spare = true }
+    ∷ record { message = sweeps; on_main = true; on_spare = true }
+    ∷ record { message = cancels 8; on_main = false; on_spare = false }
     ∷ []
 
-lines-hold : mainLine sent ∷ spareLine sent ∷ [] ≡ (at 1 sweeps ++ at 3 sweeps) ∷ (at 2 (cancels 9) ++ at 3 sweeps) ∷ []
-unfolding opened-rules lineFrom sweeps cancels at sent
+lines-hold : main_line sent ∷ spare_line sent ∷ [] ≡ (at 1 sweeps ++ at 3 sweeps) ∷ (at 2 (cancels 9) ++ at 3 sweeps) ∷ []
+unfolding opened-rules line_from sweeps cancels at sent
 lines-hold = refl
 
 pub trials : List Trial
 trials = lossy ++ stops ++ faulted ++ full
 
 pub trials-hold : map outcome trials ≡ map expected trials
-unfolding opened-rules number_of messageIn behind faulty faultlessFrom faultless partsFrom parts_of under later same nextBy next stopped first handedFrom handed joined numbered feed outcome expected sweeps cancels at accepted unknown ends faults three lossy stops faulted tight full trials
+unfolding opened-rules number_of message_in behind faulty faultless_from faultless parts_from parts_of under later same next_by next stopped first handed_from handed joined numbered feed outcome expected sweeps cancels at accepted unknown ends faults three lossy stops faulted tight full trials
 trials-hold = refl

@@ -1,7 +1,7 @@
 -- The call message by message, as the code goes. That it is the run of the list handed out is a law (proofs/Turning: fed-run).
 use Rattle.std.specs.Prelude.{true, false, List, ℕ, zero, suc, ◌-◌, length}
 use Rattle.rules.specs.declared.Venue.{Venue}
-use Rattle.rules.specs.Records.{encodeAll}
+use Rattle.rules.specs.Records.{encode_all}
 use Rattle.rules.specs.Step.{step}
 use Rattle.rules.specs.Calls.{Outcome, exceeds, ends, after}
 use Rattle.feed.specs.Feed.{Part, next, message, stop}
@@ -12,13 +12,13 @@ hands v n room bs rest =
     let a = step v (suc n) bs in
     elim (exceeds (suc n) room a.effect.reports) [
       | true ↦ ends 10 v
-      | false ↦ after a.effect (rest a.effect.venue (room - length (encodeAll a.effect.reports)))
+      | false ↦ after a.effect (rest a.effect.venue (room - length (encode_all a.effect.reports)))
     ]
 
-unfoldable pub fedFrom : (fuel : ℕ) → Venue → (n room : ℕ) → (main spare : List Part) → Outcome
-fedFrom zero v n room m s = ends 0 v
-fedFrom (suc fuel) v n room m s =
+unfoldable pub fed_from : (fuel : ℕ) → Venue → (n room : ℕ) → (main spare : List Part) → Outcome
+fed_from zero v n room m s = ends 0 v
+fed_from (suc fuel) v n room m s =
     elim (next (suc n) m s) [
-      | message bs ↦ hands v n room bs (λ w left. fedFrom fuel w (suc n) left m s)
+      | message bs ↦ hands v n room bs (λ w left. fed_from fuel w (suc n) left m s)
       | stop k ↦ ends k v
     ]

@@ -1,9 +1,9 @@
 // Two lines of one feed: the test of a line for 21, what stops the next number, and its message as a part of the line that has it. The functions only read the
 // lines and copy no message. The test reads each line once, the handing out reads it once, and a message that both lines have is compared once.
 ghost use Rattle.std.specs.Prelude.{◌≡◌, ◌&&◌, leb, ℕ, suc, ◌+◌, ◌≤◌, ◌<◌, length, drop};
-ghost use Rattle.rules.specs.Bytes.{u16At};
-ghost use Rattle.feed.specs.Feed.{number_of, messageIn, faultless, same};
-ghost use Rattle.feed.specs.Cursors.{partLength, stopOf, part_of, advanceOf};
+ghost use Rattle.rules.specs.Bytes.{u16_at};
+ghost use Rattle.feed.specs.Feed.{number_of, message_in, faultless, same};
+ghost use Rattle.feed.specs.Cursors.{part_length, stop_of, part_of, advance_of};
 ghost use Rattle.feed.specs.Requirements.{LineReady, LinesReady, LinesLeft};
 
 // The sequence number at a position; 0 where fewer than four bytes are left.
@@ -21,7 +21,7 @@ fn number_at(line: &[u8], at: usize) -> u32
 
 // The length of the message after the number at a position; 0 where the message is torn or the number is not above `last`.
 fn part_length(line: &[u8], at: usize, last: u32) -> u16
-    ensures { result ≡ partLength last (drop at line.now) }
+    ensures { result ≡ part_length last (drop at line.now) }
 {
     let number = number_at(line, at);
     if number <= last {
@@ -67,8 +67,8 @@ fn same_bytes(a: &[u8], b: &[u8]) -> bool
 
 // The message after the number at a position.
 fn message_at<'a>(line: &'a [u8], at: usize) -> &'a [u8]
-    requires { (at + 6 ≤ length line.now) × (at + 4 + u16At line.now (at + 4) ≤ length line.now) }
-    ensures { result.now ≡ messageIn (drop at line.now) }
+    requires { (at + 6 ≤ length line.now) × (at + 4 + u16_at line.now (at + 4) ≤ length line.now) }
+    ensures { result.now ≡ message_in (drop at line.now) }
 {
     let from = at + 4;
     let length = wire::u16_at(line, from);
@@ -78,8 +78,8 @@ fn message_at<'a>(line: &'a [u8], at: usize) -> &'a [u8]
 
 // The messages at a position of each line are the same.
 fn same_messages(main: &[u8], at: usize, spare: &[u8], other: usize) -> bool
-    requires { (at + 6 ≤ length main.now) × (at + 4 + u16At main.now (at + 4) ≤ length main.now) × (other + 6 ≤ length spare.now) × (other + 4 + u16At spare.now (other + 4) ≤ length spare.now) }
-    ensures { result ≡ same (messageIn (drop at main.now)) (messageIn (drop other spare.now)) }
+    requires { (at + 6 ≤ length main.now) × (at + 4 + u16_at main.now (at + 4) ≤ length main.now) × (other + 6 ≤ length spare.now) × (other + 4 + u16_at spare.now (other + 4) ≤ length spare.now) }
+    ensures { result ≡ same (message_in (drop at main.now)) (message_in (drop other spare.now)) }
 {
     let a = message_at(main, at);
     let b = message_at(spare, other);
@@ -106,7 +106,7 @@ pub struct Up {
 // The number after `done` and what stops it, with the lines at these positions and not both at their ends.
 pub fn up_next(main: &[u8], at: usize, spare: &[u8], other: usize, done: u32) -> Up
     requires { LinesLeft main.now spare.now at other done }
-    ensures { (result.number ≡ suc done) × (result.stopped ≡ stopOf (suc done) (drop at main.now) (drop other spare.now)) × (suc done < 4294967296) }
+    ensures { (result.number ≡ suc done) × (result.stopped ≡ stop_of (suc done) (drop at main.now) (drop other spare.now)) × (suc done < 4294967296) }
 {
     let here = number_at(main, at);
     let there = number_at(spare, other);
@@ -152,7 +152,7 @@ pub fn next_part<'a>(
 // The position on a line after a number's message is handed out: further if the line has that number.
 pub fn moved(line: &[u8], at: usize, number: u32) -> usize
     requires { LineReady line.now at number }
-    ensures { result ≡ at + advanceOf number (drop at line.now) }
+    ensures { result ≡ at + advance_of number (drop at line.now) }
 {
     if number_at(line, at) != number {
         return at;

@@ -10,8 +10,8 @@ use lib.Seq.{drop-drop}
 use borrow.Author.Tests.{leb-true, leb-false}
 use borrow.Rule.Slice.PartMut.{put_mid}
 use Rattle.rules.specs.declared.Venue.{Venue}
-use Rattle.rules.specs.Words.{freshVenue}
-use Rattle.rules.specs.Records.{Report, encodeAll}
+use Rattle.rules.specs.Words.{fresh_venue}
+use Rattle.rules.specs.Records.{Report, encode_all}
 use Rattle.rules.specs.Step.{StepOutcome, step}
 use Rattle.rules.specs.declared.Returned.{Returned}
 use Rattle.rules.specs.Calls.{Outcome, Call, called, ends, after, run}
@@ -19,20 +19,20 @@ use Rattle.rules.proofs.CallsLaws.{no_room, not-exceeds}
 use Rattle.rules.proofs.Tests.{and_l, and_r, and-false}
 use Rattle.demands.specs.Soundness.{SoundVenue, SoundAt}
 use Rattle.demands.proofs.Calls.{stays-sound, fresh-sound}
-use Rattle.places.specs.Layout.{venueOf, Dense}
-use Rattle.venue_bytes.specs.Held.{venueBytes, venueFrom}
+use Rattle.places.specs.Layout.{venue_of, Dense}
+use Rattle.venue_bytes.specs.Held.{venue_bytes, venue_from}
 use Rattle.venue_writer.proofs.Back.{held_whole}
 use Rattle.answers.specs.declared.Stepped.{Stepped}
 use Rattle.messages.specs.Tries.{Tries}
 use Rattle.feed.specs.Feed.{Part, parts_of, faultless, next, message, stop, handed, joined, numbered, feed}
 use Rattle.feed.specs.Requirements.{LineReady, LinesReady}
-use Rattle.feed.specs.Cursors.{ready, stopOf, part_of, upNext, advanceOf}
-use Rattle.feed.specs.Turns.{hands, fedFrom}
+use Rattle.feed.specs.Cursors.{ready, stop_of, part_of, up_next, advance_of}
+use Rattle.feed.specs.Turns.{hands, fed_from}
 use Rattle.feed.proofs.FeedRuns.{hands-full, hands_more, fed-on, fed-stop, feed-is, feed-not}
 use Rattle.feed.proofs.Ahead.{Ahead, ahead-start, ahead-moved, ahead-ready, advance-within, some-move, next_up, next-end, next-whole, up-message, up-stop}
 use Rattle.feed_run.specs.declared.FeedProgress.{FeedProgress}
-use Rattle.engine.specs.Runs.{goesOn, returnedWith, call_of}
-use Rattle.feed_run.specs.Feeds.{stopsAt, Feeds}
+use Rattle.engine.specs.Runs.{goes_on, returned_with, call_of}
+use Rattle.feed_run.specs.Feeds.{stops_at, Feeds}
 use Rattle.feed_run.specs.Requirements.{LinesStart}
 use Rattle.engine.proofs.HostsLaws.{declared, run_sound}
 use Rattle.engine.proofs.Proceeding.{goes_on, goes-not, turn-ends, too_long, venue-kept, front_kept, length-is, venue-is, turn-does, Sofar}
@@ -40,7 +40,7 @@ use Rattle.engine.proofs.Proceeding.{sofar-start, sofar-as, sofar-turn, Ended, s
 
 -- A line that is faulty -----------------------------------------------------------------------
 
-module _ (room : ℕ) (main spare : List ℕ) (v : Venue) (fresh : v ≡ freshVenue) where
+module _ (room : ℕ) (main spare : List ℕ) (v : Venue) (fresh : v ≡ fresh_venue) where
   not-fed : (faultless main && faultless spare) ≡ false → called room (ends 21 v) ≡ feed room main spare
   not-fed f = ap (λ (w : Venue). called room (ends 21 w)) fresh ∙ feed-not room main spare f
 
@@ -56,42 +56,42 @@ pub asked-one : (n d i : ℕ) (l : List ℕ) → n ≡ suc d → ready d (drop i
 asked-one n d i l e r = let z : d ≡ n - 1 = omega arith in record { numbered = omega arith; stands = subst (λ (k : ℕ). ready k (drop i l) ≡ true) z r }
 
 pub asked : (n d k i j : ℕ) (m s : List ℕ) → n ≡ suc d → ready d (drop i m) ≡ true → ready d (drop j s) ≡ true →
-    k ≡ stopOf (suc d) (drop i m) (drop j s) → k ≡ 0 → LinesReady m s i j n
+    k ≡ stop_of (suc d) (drop i m) (drop j s) → k ≡ 0 → LinesReady m s i j n
 asked n d k i j m s e a b f z =
     let x = asked-one n d i m e a in
     let y = asked-one n d j s e b in
-    record { numbered = x.numbered; main = x.stands; spare = y.stands; goes = ap (λ (h : ℕ). stopOf h (drop i m) (drop j s)) e ∙ sym f ∙ z }
+    record { numbered = x.numbered; main = x.stands; spare = y.stands; goes = ap (λ (h : ℕ). stop_of h (drop i m) (drop j s)) e ∙ sym f ∙ z }
 
 -- A turn --------------------------------------------------------------------------------------
 
 module _ (t : FeedProgress) (main spare : List ℕ) where
-  abbrev mainLeft : List ℕ
-  mainLeft = drop t.main main
+  abbrev main_left : List ℕ
+  main_left = drop t.main main
 
-  abbrev spareLeft : List ℕ
-  spareLeft = drop t.spare spare
+  abbrev spare_left : List ℕ
+  spare_left = drop t.spare spare
 
   abbrev number : ℕ
   number = suc t.done
 
   -- 19 or 20 comes up
-  pub turn_stopped : (b l : List ℕ) (k : ℕ) → k ≡ stopOf number mainLeft spareLeft → (k ≡ 0 → ⊥) → t.written ≤ length l → Dense b → SoundAt number (venueOf b) →
-      Feeds main spare t b l (stopsAt t k) b l
+  pub turn_stopped : (b l : List ℕ) (k : ℕ) → k ≡ stop_of number main_left spare_left → (k ≡ 0 → ⊥) → t.written ≤ length l → Dense b → SoundAt number (venue_of b) →
+      Feeds main spare t b l (stops_at t k) b l
   turn_stopped b l k e z w d s =
       record {
         turned = λ fuel ms ss up. turn-ends _ _ k t.done t.written l b l z w refl
-            (fed-stop fuel (venueOf b) t.done (length l - t.written) ms ss k (up ∙ up-stop number mainLeft spareLeft k e z));
+            (fed-stop fuel (venue_of b) t.done (length l - t.written) ms ss k (up ∙ up-stop number main_left spare_left k e z));
         moved = λ h. absurd (z h);
         dense = d;
         sound = s;
       }
 
   -- its message was tried: r is what was returned, and ys what is left of the report from t's position on
-  module _ (b₀ b l ys part : List ℕ) (n : ℕ) (r : Stepped) (free : stopOf number mainLeft spareLeft ≡ 0) (n-is : n ≡ number) (few : n < 4294967296)
-      (part-is : part ≡ part_of n mainLeft spareLeft) (w : t.written ≤ length l) (s : SoundAt number (venueOf b₀))
-      (tries : Tries (step (venueOf b₀) n part) b₀ (take (length l - t.written) (drop t.written l)) r b ys) where
+  module _ (b₀ b l ys part : List ℕ) (n : ℕ) (r : Stepped) (free : stop_of number main_left spare_left ≡ 0) (n-is : n ≡ number) (few : n < 4294967296)
+      (part-is : part ≡ part_of n main_left spare_left) (w : t.written ≤ length l) (s : SoundAt number (venue_of b₀))
+      (tries : Tries (step (venue_of b₀) n part) b₀ (take (length l - t.written) (drop t.written l)) r b ys) where
     abbrev v : Venue
-    v = venueOf b₀
+    v = venue_of b₀
 
     abbrev done : StepOutcome
     done = step v number part
@@ -108,21 +108,21 @@ module _ (t : FeedProgress) (main spare : List ℕ) where
     tried : Tries done b₀ (take room (drop t.written l)) r b ys
     tried = subst (λ (k : ℕ). Tries (step v k part) b₀ (take room (drop t.written l)) r b ys) n-is tries
 
-    handed_out : (fuel : ℕ) (ms ss : List Part) → next number ms ss ≡ upNext number mainLeft spareLeft →
-        fedFrom (suc fuel) v t.done room ms ss ≡ hands v t.done room part (λ w left. fedFrom fuel w number left ms ss)
+    handed_out : (fuel : ℕ) (ms ss : List Part) → next number ms ss ≡ up_next number main_left spare_left →
+        fed_from (suc fuel) v t.done room ms ss ≡ hands v t.done room part (λ w left. fed_from fuel w number left ms ss)
     handed_out fuel ms ss up =
         fed-on fuel v t.done room ms ss part
-        (up ∙ up-message number mainLeft spareLeft free ∙ ap message (sym (part-is ∙ ap (λ (k : ℕ). part_of k mainLeft spareLeft) n-is)))
+        (up ∙ up-message number main_left spare_left free ∙ ap message (sym (part-is ∙ ap (λ (k : ℕ). part_of k main_left spare_left) n-is)))
 
     -- the records do not fit
     pub turn-full : length l - t.written < r.written →
-        Feeds main spare t b₀ l (stopsAt t 10) b back
+        Feeds main spare t b₀ l (stops_at t 10) b back
     turn-full h =
         let same = venue-kept done t.written b₀ b l ys r w tried h in
         record {
           turned = λ fuel ms ss up. turn-ends _ _ 10 t.done t.written l b back (λ z. omega arith) w (front_kept done t.written b₀ b l ys r w tried h)
               (handed_out fuel ms ss up
-              ∙ hands-full v t.done room part (λ w left. fedFrom fuel w number left ms ss)
+              ∙ hands-full v t.done room part (λ w left. fed_from fuel w number left ms ss)
               (no_room number room rs (omega arith) (too_long done t.written b₀ b l ys r w tried h))
               ∙ ap (ends 10) (sym same));
           moved = λ z. absurd (omega arith);
@@ -131,23 +131,23 @@ module _ (t : FeedProgress) (main spare : List ℕ) where
         }
 
     -- they do
-    pub turn-handed : r.written ≤ length l - t.written → (x y : ℕ) → x ≡ t.main + advanceOf n mainLeft → y ≡ t.spare + advanceOf n spareLeft →
+    pub turn-handed : r.written ≤ length l - t.written → (x y : ℕ) → x ≡ t.main + advance_of n main_left → y ≡ t.spare + advance_of n spare_left →
         Feeds main spare t b₀ l (record { number = 0; done = n; main = x; spare = y; written = t.written + r.written }) b back
     turn-handed h x y x-is y-is =
         let q = length-is done t.written b₀ b l ys r w tried h in
         let same = venue-is done t.written b₀ b l ys r w tried h in
-        let far = some-move number mainLeft spareLeft free in
-        let xx : x ≡ t.main + advanceOf number mainLeft = x-is ∙ ap (λ (k : ℕ). t.main + advanceOf k mainLeft) n-is in
-        let yy : y ≡ t.spare + advanceOf number spareLeft = y-is ∙ ap (λ (k : ℕ). t.spare + advanceOf k spareLeft) n-is in
-        let left : room - length (encodeAll rs) ≡ length l - (t.written + r.written) = omega arith in
+        let far = some-move number main_left spare_left free in
+        let xx : x ≡ t.main + advance_of number main_left = x-is ∙ ap (λ (k : ℕ). t.main + advance_of k main_left) n-is in
+        let yy : y ≡ t.spare + advance_of number spare_left = y-is ∙ ap (λ (k : ℕ). t.spare + advance_of k spare_left) n-is in
+        let left : room - length (encode_all rs) ≡ length l - (t.written + r.written) = omega arith in
         record {
           turned = λ fuel ms ss up. turn-does done t.written b₀ b l ys r w tried h _ _ 0 t.done n n-is
               (handed_out fuel ms ss up
-              ∙ hands_more v t.done room part (λ w left. fedFrom fuel w number left ms ss) (not-exceeds number room rs (omega arith) (omega arith))
+              ∙ hands_more v t.done room part (λ w left. fed_from fuel w number left ms ss) (not-exceeds number room rs (omega arith) (omega arith))
               ∙ ap (after done.effect)
-              (ap₂ (λ (z : Venue) (k : ℕ). fedFrom fuel z k (room - length (encodeAll rs)) ms ss) (sym same) (sym n-is)
-              ∙ ap (λ (k : ℕ). fedFrom fuel (venueOf b) n k ms ss) left
-              ∙ sym (goes_on 0 (venueOf b) _ refl)));
+              (ap₂ (λ (z : Venue) (k : ℕ). fed_from fuel z k (room - length (encode_all rs)) ms ss) (sym same) (sym n-is)
+              ∙ ap (λ (k : ℕ). fed_from fuel (venue_of b) n k ms ss) left
+              ∙ sym (goes_on 0 (venue_of b) _ refl)));
           moved = λ _. (n-is, xx, yy, omega arith);
           dense = tried.dense;
           sound = rw (n-is, same) (stays-sound v number (omega arith) s part);
@@ -156,14 +156,14 @@ module _ (t : FeedProgress) (main spare : List ℕ) where
 -- The loop ------------------------------------------------------------------------------------
 
 -- the whole of it, and what is left at a turn
-abbrev wholeFeed : (main spare l₀ : List ℕ) → Outcome
-wholeFeed main spare l₀ = fedFrom (length main + length spare) freshVenue 0 (length l₀) (parts_of main) (parts_of spare)
+abbrev whole_feed : (main spare l₀ : List ℕ) → Outcome
+whole_feed main spare l₀ = fed_from (length main + length spare) fresh_venue 0 (length l₀) (parts_of main) (parts_of spare)
 
-abbrev leftFeed : (main spare l₀ b : List ℕ) (t : FeedProgress) → Outcome
-leftFeed main spare l₀ b t = fedFrom (length main + length spare - t.done) (venueOf b) t.done (length l₀ - t.written) (parts_of main) (parts_of spare)
+abbrev left_feed : (main spare l₀ b : List ℕ) (t : FeedProgress) → Outcome
+left_feed main spare l₀ b t = fed_from (length main + length spare - t.done) (venue_of b) t.done (length l₀ - t.written) (parts_of main) (parts_of spare)
 
 pub record Feeding (main spare l₀ b l : List ℕ) (t : FeedProgress) : Type 0 where
-  pub sofar : Sofar (wholeFeed main spare l₀) l₀ b l t.number t.done t.written (leftFeed main spare l₀ b t)
+  pub sofar : Sofar (whole_feed main spare l₀) l₀ b l t.number t.done t.written (left_feed main spare l₀ b t)
   pub going : t.number ≡ 0
   pub on-main : Ahead t.done (drop t.main main) (parts_of main)
   pub on-spare : Ahead t.done (drop t.spare spare) (parts_of spare)
@@ -171,13 +171,13 @@ pub record Feeding (main spare l₀ b l : List ℕ) (t : FeedProgress) : Type 0 
   pub spare-in : t.spare ≤ length spare
   pub count : t.done ≤ t.main + t.spare
   pub dense : Dense b
-  pub sound : SoundAt (suc t.done) (venueOf b)
+  pub sound : SoundAt (suc t.done) (venue_of b)
 
 abbrev pub FeedEnded : (main spare l₀ b l : List ℕ) (t : FeedProgress) → Type 0
-FeedEnded main spare l₀ b l t = Ended (wholeFeed main spare l₀) l₀ b l t.number t.done t.written
+FeedEnded main spare l₀ b l t = Ended (whole_feed main spare l₀) l₀ b l t.number t.done t.written
 
-fed-none : (fuel : ℕ) (v : Venue) (n room : ℕ) (m s : List Part) → next (suc n) m s ≡ stop 0 → fedFrom fuel v n room m s ≡ ends 0 v
-fed-none zero v n room m s e = unfold fedFrom in refl
+fed-none : (fuel : ℕ) (v : Venue) (n room : ℕ) (m s : List Part) → next (suc n) m s ≡ stop 0 → fed_from fuel v n room m s ≡ ends 0 v
+fed-none zero v n room m s e = unfold fed_from in refl
 fed-none (suc fuel) v n room m s e = fed-stop fuel v n room m s 0 e
 
 -- it begins with the numbers of a fresh venue
@@ -188,11 +188,11 @@ feeding-start main spare b l s =
     let p : length main + length spare ≡ length main + length spare - 0 = omega arith in
     let q : length l ≡ length l - 0 = omega arith in
     record {
-      sofar = sofar-as (wholeFeed main spare l) l b l 0 0 0 (wholeFeed main spare l) _
-          (ap (goesOn 0 (venueOf b))
-          (ap₂ (λ (x y : ℕ). fedFrom x freshVenue 0 y (parts_of main) (parts_of spare)) p q
-          ∙ ap (λ (v : Venue). fedFrom (length main + length spare - 0) v 0 (length l - 0) (parts_of main) (parts_of spare)) (sym f.venue)))
-          (sofar-start (wholeFeed main spare l) l b 0 n.whole refl);
+      sofar = sofar-as (whole_feed main spare l) l b l 0 0 0 (whole_feed main spare l) _
+          (ap (goes_on 0 (venue_of b))
+          (ap₂ (λ (x y : ℕ). fed_from x fresh_venue 0 y (parts_of main) (parts_of spare)) p q
+          ∙ ap (λ (v : Venue). fed_from (length main + length spare - 0) v 0 (length l - 0) (parts_of main) (parts_of spare)) (sym f.venue)))
+          (sofar-start (whole_feed main spare l) l b 0 n.whole refl);
       going = refl;
       on-main = ahead-start main s.main;
       on-spare = ahead-start spare s.spare;
@@ -213,10 +213,10 @@ not-ends a b at other h k e = go (leb a at) refl (leb b other) refl e
     go false f y g e = let z = leb-false a at f in omega arith
 
 -- a line once a number's message is handed out
-moved_to : (n n' at at' : ℕ) (line : List ℕ) (ps : List Part) → n' ≡ suc n → at' ≡ at + advanceOf (suc n) (drop at line) → Ahead n (drop at line) ps → Ahead n' (drop at' line) ps
+moved_to : (n n' at at' : ℕ) (line : List ℕ) (ps : List Part) → n' ≡ suc n → at' ≡ at + advance_of (suc n) (drop at line) → Ahead n (drop at line) ps → Ahead n' (drop at' line) ps
 moved_to n n' at at' line ps d e a =
     subst (λ (k : ℕ). Ahead k (drop at' line) ps) (sym d)
-    (subst (λ (xs : List ℕ). Ahead (suc n) xs ps) (drop-drop (advanceOf (suc n) (drop at line)) at line ∙ ap (λ (k : ℕ). drop k line) (sym e)) (ahead-moved n (drop at line) ps a))
+    (subst (λ (xs : List ℕ). Ahead (suc n) xs ps) (drop-drop (advance_of (suc n) (drop at line)) at line ∙ ap (λ (k : ℕ). drop k line) (sym e)) (ahead-moved n (drop at line) ps a))
 
 module _ (main spare l₀ b l : List ℕ) (t : FeedProgress) (g : Feeding main spare l₀ b l t) where
   pub feeding-end : (leb (length main) t.main && leb (length spare) t.spare) ≡ true → FeedEnded main spare l₀ b l t
@@ -225,11 +225,11 @@ module _ (main spare l₀ b l : List ℕ) (t : FeedProgress) (g : Feeding main s
       let y = leb-true (length spare) t.spare (and_r (leb (length main) t.main) _ e) in
       let p = length-drop t.main main in
       let q = length-drop t.spare spare in
-      sofar-ends (wholeFeed main spare l₀) l₀ b l t.number t.done t.written (leftFeed main spare l₀ b t)
-      (goes_on t.number (venueOf b) (leftFeed main spare l₀ b t) g.going
-      ∙ fed-none (length main + length spare - t.done) (venueOf b) t.done (length l₀ - t.written) (parts_of main) (parts_of spare)
+      sofar-ends (whole_feed main spare l₀) l₀ b l t.number t.done t.written (left_feed main spare l₀ b t)
+      (goes_on t.number (venue_of b) (left_feed main spare l₀ b t) g.going
+      ∙ fed-none (length main + length spare - t.done) (venue_of b) t.done (length l₀ - t.written) (parts_of main) (parts_of spare)
       (next-end t.done (drop t.main main) (drop t.spare spare) (parts_of main) (parts_of spare) g.on-main g.on-spare (omega arith) (omega arith))
-      ∙ ap (λ (k : ℕ). ends k (venueOf b)) (sym g.going))
+      ∙ ap (λ (k : ℕ). ends k (venue_of b)) (sym g.going))
       g.sofar
 
   module _ (ahead : t.main + t.spare < length main + length spare) (r : FeedProgress) (b' l' : List ℕ) (slice : length b' ≡ length b) (same : length l' ≡ length l)
@@ -244,15 +244,15 @@ module _ (main spare l₀ b l : List ℕ) (t : FeedProgress) (g : Feeding main s
 
     -- one turn more, with the fuel that is left
     turned : (fuel : ℕ) → length main + length spare - t.done ≡ suc fuel →
-        Sofar (wholeFeed main spare l₀) l₀ b' l' r.number r.done r.written (fedFrom fuel (venueOf b') r.done (length l - r.written) (parts_of main) (parts_of spare))
+        Sofar (whole_feed main spare l₀) l₀ b' l' r.number r.done r.written (fed_from fuel (venue_of b') r.done (length l - r.written) (parts_of main) (parts_of spare))
     turned fuel f =
         let up = next_up t.done (drop t.main main) (drop t.spare spare) (parts_of main) (parts_of spare) g.on-main g.on-spare some_left in
         let more = turn.turned fuel (parts_of main) (parts_of spare) up in
         let c = more.counted in
-        sofar-turn (wholeFeed main spare l₀) l₀ b l t.number t.done t.written _
-        (sofar-as (wholeFeed main spare l₀) l₀ b l t.number t.done t.written (leftFeed main spare l₀ b t) _
-        (ap (goesOn t.number (venueOf b))
-        (ap₂ (λ (x y : ℕ). fedFrom x (venueOf b) t.done (y - t.written) (parts_of main) (parts_of spare)) f (sym g.sofar.len)))
+        sofar-turn (whole_feed main spare l₀) l₀ b l t.number t.done t.written _
+        (sofar-as (whole_feed main spare l₀) l₀ b l t.number t.done t.written (left_feed main spare l₀ b t) _
+        (ap (goes_on t.number (venue_of b))
+        (ap₂ (λ (x y : ℕ). fed_from x (venue_of b) t.done (y - t.written) (parts_of main) (parts_of spare)) f (sym g.sofar.len)))
         g.sofar)
         g.going r.number r.done r.written b' l' _ slice same t.done r.done more (omega arith)
 
@@ -274,9 +274,9 @@ module _ (main spare l₀ b l : List ℕ) (t : FeedProgress) (g : Feeding main s
         let ps = advance-within t.done (drop t.spare spare) (ahead-ready t.done _ _ g.on-spare) in
         let c = g.count in
         record {
-          sofar = sofar-as (wholeFeed main spare l₀) l₀ b' l' r.number r.done r.written _ (leftFeed main spare l₀ b' r)
-              (ap (goesOn r.number (venueOf b'))
-              (ap₂ (λ (i j : ℕ). fedFrom (length main + length spare - i) (venueOf b') r.done (j - r.written) (parts_of main) (parts_of spare)) (sym d) g.sofar.len))
+          sofar = sofar-as (whole_feed main spare l₀) l₀ b' l' r.number r.done r.written _ (left_feed main spare l₀ b' r)
+              (ap (goes_on r.number (venue_of b'))
+              (ap₂ (λ (i j : ℕ). fed_from (length main + length spare - i) (venue_of b') r.done (j - r.written) (parts_of main) (parts_of spare)) (sym d) g.sofar.len))
               (turned (length main + length spare - suc t.done) fuel-left);
           going = e;
           on-main = moved_to t.done r.done t.main r.main main (parts_of main) d x g.on-main;
@@ -290,15 +290,15 @@ module _ (main spare l₀ b l : List ℕ) (t : FeedProgress) (g : Feeding main s
 
     pub feeding-stop : (r.number ≡ 0 → ⊥) → FeedEnded main spare l₀ b' l' r
     feeding-stop e =
-        sofar-ends (wholeFeed main spare l₀) l₀ b' l' r.number r.done r.written _ (goes-not r.number (venueOf b') _ e)
+        sofar-ends (whole_feed main spare l₀) l₀ b' l' r.number r.done r.written _ (goes-not r.number (venue_of b') _ e)
         (turned (length main + length spare - suc t.done) fuel-left)
 
 -- the rest of the report zeroed
 pub fed : (main spare l₀ b₀ b l z : List ℕ) (t : FeedProgress) → LinesStart b₀ main spare → FeedEnded main spare l₀ b l t →
     z ≡ take t.written l ++ replicate (length l - t.written) 0 →
-    call_of (returnedWith (record { number = t.number; done = t.done; written = t.written }) (venueOf b)) z ≡ feed (length l₀) main spare
+    call_of (returned_with (record { number = t.number; done = t.done; written = t.written }) (venue_of b)) z ≡ feed (length l₀) main spare
 fed main spare l₀ b₀ b l z t s d e =
-    ended-call (wholeFeed main spare l₀) l₀ b l t.number t.done t.written z (venueOf b) d e refl
+    ended-call (whole_feed main spare l₀) l₀ b l t.number t.done t.written z (venue_of b) d e refl
     ∙ feed-is (parts_of main) (parts_of spare) (next-whole main spare s.main s.spare) (length l₀) main spare refl refl s.main s.spare
 
 -- The venue by value --------------------------------------------------------------------------
@@ -306,11 +306,11 @@ fed main spare l₀ b₀ b l z t s d e =
 -- a sound venue leaves a sound one
 feed-sound : (room : ℕ) (main spare : List ℕ) → SoundVenue (feed room main spare).returned.venue
 unfolding feed numbered run called
-feed-sound room main spare = let bs = joined (handed main spare).messages in run_sound (length bs) freshVenue 0 room bs fresh-sound
+feed-sound room main spare = let bs = joined (handed main spare).messages in run_sound (length bs) fresh_venue 0 room bs fresh-sound
 
-pub fed-sound : (room : ℕ) (main spare b z : List ℕ) (r : Returned) → r.venue ≡ venueOf b → call_of r z ≡ feed room main spare → SoundVenue (venueOf b)
+pub fed-sound : (room : ℕ) (main spare b z : List ℕ) (r : Returned) → r.venue ≡ venue_of b → call_of r z ≡ feed room main spare → SoundVenue (venue_of b)
 fed-sound room main spare b z r e call = subst SoundVenue (sym (ap (λ (c : Call). c.returned.venue) call) ∙ e) (feed-sound room main spare)
 
 -- its bytes are read back
-pub venue-back : (v w : Venue) (m : List ℕ) → SoundVenue v → m ≡ venueBytes v → w ≡ venueFrom m → w ≡ v
-venue-back v w m s e f = f ∙ ap venueFrom e ∙ held_whole v (declared v s)
+pub venue-back : (v w : Venue) (m : List ℕ) → SoundVenue v → m ≡ venue_bytes v → w ≡ venue_from m → w ≡ v
+venue-back v w m s e f = f ∙ ap venue_from e ∙ held_whole v (declared v s)

@@ -1,22 +1,22 @@
 -- Where the handing out of two lines stands, and what a turn of it leaves.
 use Rattle.std.specs.Prelude.{◌≡◌, List, true, ℕ, suc, ◌+◌, ◌-◌, ◌≤◌, ◌<◌, length, drop}
 use Rattle.demands.specs.Soundness.{SoundAt}
-use Rattle.places.specs.Layout.{size, venueOf, Dense}
+use Rattle.places.specs.Layout.{size, venue_of, Dense}
 use Rattle.feed.specs.Feed.{Part, next}
-use Rattle.feed.specs.Cursors.{ready, upNext, advanceOf}
-use Rattle.feed.specs.Turns.{fedFrom}
+use Rattle.feed.specs.Cursors.{ready, up_next, advance_of}
+use Rattle.feed.specs.Turns.{fed_from}
 use Rattle.feed_run.specs.declared.FeedProgress.{FeedProgress}
 use Rattle.engine.specs.Runs.{Turned}
 
 -- stopped with a number where it stands
-abbrev pub stopsAt : FeedProgress → (number : ℕ) → FeedProgress
-stopsAt t k = record { number = k; done = t.done; main = t.main; spare = t.spare; written = t.written }
+abbrev pub stops_at : FeedProgress → (number : ℕ) → FeedProgress
+stops_at t k = record { number = k; done = t.done; main = t.main; spare = t.spare; written = t.written }
 
 -- what a turn requires: a sound venue, room, lines that are ready at their positions, and something left on one of them
 pub record FeedReady (t : FeedProgress) (b main spare l : List ℕ) : Type 0 where
   pub slice : length b ≡ size
   pub dense : Dense b
-  pub sound : SoundAt (suc t.done) (venueOf b)
+  pub sound : SoundAt (suc t.done) (venue_of b)
   pub within : t.written ≤ length l
   pub main-ready : ready t.done (drop t.main main) ≡ true
   pub spare-ready : ready t.done (drop t.spare spare) ≡ true
@@ -26,10 +26,10 @@ pub record FeedReady (t : FeedProgress) (b main spare l : List ℕ) : Type 0 whe
 
 -- from turn t to turn r one message is handed out and done, or the call has ended; m and s are what stands on the lines
 pub record Feeds (main spare : List ℕ) (t : FeedProgress) (b₀ l₀ : List ℕ) (r : FeedProgress) (b l : List ℕ) : Type 0 where
-  pub turned : (fuel : ℕ) (m s : List Part) → next (suc t.done) m s ≡ upNext (suc t.done) (drop t.main main) (drop t.spare spare) →
-      Turned (fedFrom (suc fuel) (venueOf b₀) t.done (length l₀ - t.written) m s) t.done t.written l₀ r.number r.done r.written b l
-      (fedFrom fuel (venueOf b) r.done (length l₀ - r.written) m s)
-  pub moved : r.number ≡ 0 → (r.done ≡ suc t.done) × (r.main ≡ t.main + advanceOf (suc t.done) (drop t.main main))
-      × (r.spare ≡ t.spare + advanceOf (suc t.done) (drop t.spare spare)) × (t.main + t.spare < r.main + r.spare)
+  pub turned : (fuel : ℕ) (m s : List Part) → next (suc t.done) m s ≡ up_next (suc t.done) (drop t.main main) (drop t.spare spare) →
+      Turned (fed_from (suc fuel) (venue_of b₀) t.done (length l₀ - t.written) m s) t.done t.written l₀ r.number r.done r.written b l
+      (fed_from fuel (venue_of b) r.done (length l₀ - r.written) m s)
+  pub moved : r.number ≡ 0 → (r.done ≡ suc t.done) × (r.main ≡ t.main + advance_of (suc t.done) (drop t.main main))
+      × (r.spare ≡ t.spare + advance_of (suc t.done) (drop t.spare spare)) × (t.main + t.spare < r.main + r.spare)
   pub dense : Dense b
-  pub sound : SoundAt (suc r.done) (venueOf b)
+  pub sound : SoundAt (suc r.done) (venue_of b)

@@ -3,7 +3,7 @@ use Rattle.std.specs.Prelude.{◌≡◌, List, ℕ, ◌≤◌, eqb, length}
 use Rattle.rules.specs.declared.Returned.{Returned}
 use Rattle.rules.specs.Base.{if◌then◌else◌}
 use Rattle.feed.specs.Feed.{handed, joined, feed}
-use Rattle.feed.specs.Sent.{Sent, AllWhole, NoneLost, mainLine, spareLine, messages}
+use Rattle.feed.specs.Sent.{Sent, AllWhole, NoneLost, main_line, spare_line, messages}
 use Rattle.engine.specs.Runs.{call_of}
 use Rattle.engine.specs.Sheets.{Ran}
 
@@ -23,4 +23,4 @@ ReturnsAsRun = (main spare held₁ held₂ : List ℕ) → length held₁ ≡ le
 abbrev pub ReturnsAsList : Type 0
 ReturnsAsList = (sent : List Sent) → length sent ≤ 4294967295 → AllWhole sent → NoneLost sent →
     (held₁ held₂ : List ℕ) → length held₁ ≡ length held₂ → (r₁ r₂ : Returned) (left₁ left₂ : List ℕ) →
-    WasFed (mainLine sent) (spareLine sent) held₁ r₁ left₁ → Ran (joined (messages sent)) held₂ r₂ left₂ → (r₁ ≡ r₂) × (left₁ ≡ left₂)
+    WasFed (main_line sent) (spare_line sent) held₁ r₁ left₁ → Ran (joined (messages sent)) held₂ r₂ left₂ → (r₁ ≡ r₂) × (left₁ ≡ left₂)

@@ -1,9 +1,9 @@
 // The messages of two lines of one feed, number by number, from a fresh venue.
 ghost use Rattle.std.specs.Prelude.{◌≡◌, length};
 ghost use Rattle.feed.specs.Feed as feeding;
-ghost use Rattle.places.specs.Layout.{venueOf};
-ghost use Rattle.engine.specs.Runs.{returnedWith, call_of};
-ghost use Rattle.feed_run.specs.Feeds.{stopsAt, FeedReady, Feeds};
+ghost use Rattle.places.specs.Layout.{venue_of};
+ghost use Rattle.engine.specs.Runs.{returned_with, call_of};
+ghost use Rattle.feed_run.specs.Feeds.{stops_at, FeedReady, Feeds};
 ghost use Rattle.feed_run.specs.Requirements.{FreshNumbers, SoundNumbers, LinesStart};
 
 use engine::Ended;
@@ -23,7 +23,7 @@ pub struct FeedProgress {
 
 // The handing out, stopped with a number where it stands.
 fn stop_at(t: FeedProgress, number: u8) -> FeedProgress
-    ensures { result ≡ stopsAt t number }
+    ensures { result ≡ stops_at t number }
 {
     FeedProgress {
         number,
@@ -74,7 +74,7 @@ fn hand_out<'a>(
 // The messages of two faultless lines, number by number, on the numbers of a fresh venue.
 fn feed_lines<'a>(numbers: &mut [u32], main: &'a [u8], spare: &'a [u8], report: &mut [u8]) -> Ended
     requires { LinesStart numbers.old main.now spare.now }
-    ensures { call_of (returnedWith result (venueOf numbers.new)) report.new ≡ feeding.feed (length report.old) main.now spare.now }
+    ensures { call_of (returned_with result (venue_of numbers.new)) report.new ≡ feeding.feed (length report.old) main.now spare.now }
 {
     let mut t = FeedProgress {
         number: 0,
@@ -108,7 +108,7 @@ pub fn feed_on_numbers<'a>(
     report: &mut [u8],
 ) -> Ended
     requires { FreshNumbers numbers.old }
-    ensures { call_of (returnedWith result (venueOf numbers.new)) report.new ≡ feeding.feed (length report.old) main.now spare.now }
+    ensures { call_of (returned_with result (venue_of numbers.new)) report.new ≡ feeding.feed (length report.old) main.now spare.now }
 {
     if !feed::is_faultless(main) {
         return engine::end_before(21, report);
@@ -122,7 +122,7 @@ pub fn feed_on_numbers<'a>(
 // The venue that the numbers stand for, by value: the function writes the venue's bytes and reads them.
 fn venue_read(numbers: &[u32]) -> Venue
     requires { SoundNumbers numbers.now }
-    ensures { result ≡ venueOf numbers.now }
+    ensures { result ≡ venue_of numbers.now }
 {
     let mut bytes = [0u8; venue_bytes::VENUE_SIZE];
     numbers_writer::put_numbers(&mut bytes, numbers);

@@ -1,14 +1,14 @@
 // Generation of legging orders.
 ghost use Rattle.std.specs.Prelude.{◌≡◌, ◌≤◌, ◌<◌, min, nat_abs, length};
-ghost use Rattle.rules.specs.Words.{signTimes, leggingAt};
+ghost use Rattle.rules.specs.Words.{sign_times, legging_at};
 ghost use Rattle.rules.specs.Settings.{increment};
-ghost use Rattle.rules.specs.Prices.{displayedPrice};
-ghost use Rattle.rules.specs.Generation.{asPrice, generationsOf, givesWay, placed, othersStand, underCeiling, generateLeg, generate};
+ghost use Rattle.rules.specs.Prices.{displayed_price};
+ghost use Rattle.rules.specs.Generation.{as_price, generations_of, gives_way, placed, others_stand, under_ceiling, generate_leg, generate};
 ghost use Rattle.records.specs.Seen.{seen};
 ghost use Rattle.records.specs.Stage.{stage, ◌does◌};
-ghost use Rattle.places.specs.Layout.{size, venueOf, Figured, SameCounts};
-ghost use Rattle.settling.specs.Parts.{otherTaken};
-ghost use Rattle.generation.specs.Parts.{rangedPrice, pricedLeg, mayGenerate, priceMayStand, mayStand, plannedLeg, madeBy};
+ghost use Rattle.places.specs.Layout.{size, venue_of, Figured, SameCounts};
+ghost use Rattle.settling.specs.Parts.{other_taken};
+ghost use Rattle.generation.specs.Parts.{ranged_price, priced_leg, may_generate, price_may_stand, may_stand, planned_leg, made_by};
 ghost use Rattle.generation.specs.Requirements.{PlanReady, StandReady, BestPrices};
 ghost use Rattle.levels.specs.Requirements.{TakenFigured, TakenSeries};
 ghost use Rattle.places.specs.Requirements.{RightNumbers, SeriesReady, SideReady, IncrementReady, RightPlace};
@@ -20,7 +20,7 @@ use rules::{Cause, Complex, Legging};
 // Sign × z for a leg of side d.
 fn sign_times(d: u8, z: i64) -> i64
     requires { nat_abs z ≤ 8589934590 }
-    ensures { result ≡ signTimes d z }
+    ensures { result ≡ sign_times d z }
 {
     if d == 0 {
         return z;
@@ -30,7 +30,7 @@ fn sign_times(d: u8, z: i64) -> i64
 
 // A number as a price; 0 where it is negative.
 fn as_price(z: i64) -> u64
-    ensures { result ≡ asPrice z }
+    ensures { result ≡ as_price z }
 {
     if z < 0 {
         return 0;
@@ -41,7 +41,7 @@ fn as_price(z: i64) -> u64
 // The price p, if its displayed price is from the increment to 100,000; else 0.
 fn ranged(numbers: &[u32], s: u8, d: u8, p: u64) -> u32
     requires { IncrementReady numbers.now s }
-    ensures { result ≡ rangedPrice (venueOf numbers.now) s d p }
+    ensures { result ≡ ranged_price (venue_of numbers.now) s d p }
 {
     let increment = prices::increment_of(numbers, s);
     if 100254 < p {
@@ -61,7 +61,7 @@ fn ranged(numbers: &[u32], s: u8, d: u8, p: u64) -> u32
 // The price of the leg of c at side d of series s: sign × (N - the other leg's sign × its clear price); 0 where no such price is in range.
 pub fn leg_price(numbers: &[u32], taken: TakenLevels, c: Complex, s: u8, d: u8) -> u32
     requires { TakenSeries numbers.now taken c s }
-    ensures { result ≡ pricedLeg (venueOf numbers.now) c s d }
+    ensures { result ≡ priced_leg (venue_of numbers.now) c s d }
 {
     let clear = settling::other_clear(numbers, taken, c, s);
     if clear == 0 {
@@ -76,7 +76,7 @@ pub fn leg_price(numbers: &[u32], taken: TakenLevels, c: Complex, s: u8, d: u8) 
 // c is one to one, both its series are open, and N is in band.
 fn may_generate(numbers: &[u32], taken: TakenLevels, c: Complex) -> bool
     requires { TakenFigured numbers.now taken c }
-    ensures { result ≡ mayGenerate (venueOf numbers.now) c }
+    ensures { result ≡ may_generate (venue_of numbers.now) c }
 {
     if !arithmetic::is_one_to_one(c) {
         return false;
@@ -90,7 +90,7 @@ fn may_generate(numbers: &[u32], taken: TakenLevels, c: Complex) -> bool
 // The displayed price of p at side d of series s is no worse than `own`, the best regular price there, and p reaches nothing opposite (`facing`: best regular).
 fn price_may_stand(numbers: &[u32], own: u32, facing: u32, s: u8, d: u8, p: u32) -> bool
     requires { BestPrices numbers.now own facing s d }
-    ensures { result ≡ priceMayStand (venueOf numbers.now) s d p }
+    ensures { result ≡ price_may_stand (venue_of numbers.now) s d p }
 {
     if !settling::displayed_no_worse(numbers, own, s, d, p) {
         return false;
@@ -105,7 +105,7 @@ fn price_may_stand(numbers: &[u32], own: u32, facing: u32, s: u8, d: u8, p: u32)
 // What stands at side d of series s gives way to c at price p: its price is worse, or it is equal, its parent is of class 1 and c of class 0.
 pub fn gives_way(numbers: &[u32], c: Complex, s: u8, d: u8, p: u32) -> bool
     requires { SideReady numbers.now s d }
-    ensures { result ≡ givesWay (venueOf numbers.now) c d p (leggingAt (venueOf numbers.now) s d) }
+    ensures { result ≡ gives_way (venue_of numbers.now) c d p (legging_at (venue_of numbers.now) s d) }
 {
     let own = prices::own_price(numbers, s, d);
     if arithmetic::is_better(d, p, own) {
@@ -127,7 +127,7 @@ pub fn gives_way(numbers: &[u32], c: Complex, s: u8, d: u8, p: u32) -> bool
 // Every condition on a legging order of c at price p, except that the others stand, and the ceiling. c may generate.
 fn may_stand(numbers: &[u32], sides: LegSides, c: Complex, s: u8, d: u8, p: u32) -> bool
     requires { StandReady numbers.now sides c s d }
-    ensures { result ≡ mayStand (venueOf numbers.now) c s d p }
+    ensures { result ≡ may_stand (venue_of numbers.now) c s d p }
 {
     if !price_may_stand(numbers, sides.own, sides.facing, s, d, p) {
         return false;
@@ -137,7 +137,7 @@ fn may_stand(numbers: &[u32], sides: LegSides, c: Complex, s: u8, d: u8, p: u32)
 
 // The lesser of an order's open quantity and the size at the other leg's clear price.
 fn leg_quantity(taken: TakenLevels, c: Complex, s: u8) -> u32
-    ensures { result ≡ min c.quantity (otherTaken taken c s).size }
+    ensures { result ≡ min c.quantity (other_taken taken c s).size }
 {
     let open = c.quantity as u64;
     let best = settling::other_level(taken, c, s);
@@ -150,8 +150,8 @@ fn leg_quantity(taken: TakenLevels, c: Complex, s: u8) -> u32
 // With l at place n every other legging order passes its test. The grid depends on the regular orders alone. The function restores the venue.
 fn others_stand_with(numbers: &mut [u32], n: usize, l: Legging) -> bool
     requires { RightPlace numbers.old n }
-    ensures value { result ≡ othersStand (placed n l (venueOf numbers.old)) n 0 (placed n l (venueOf numbers.old)).legging }
-    ensures kept { venueOf numbers.new ≡ venueOf numbers.old }
+    ensures value { result ≡ others_stand (placed n l (venue_of numbers.old)) n 0 (placed n l (venue_of numbers.old)).legging }
+    ensures kept { venue_of numbers.new ≡ venue_of numbers.old }
     ensures counts { SameCounts numbers.old numbers.new }
 {
     let g = levels::levels(numbers);
@@ -165,7 +165,7 @@ fn others_stand_with(numbers: &mut [u32], n: usize, l: Legging) -> bool
 // The legging order of the leg of c at side d of series s, where it may stand; else a free place. c has open quantity, and may generate.
 fn plan_leg(numbers: &[u32], c: Complex, s: u8, d: u8) -> Legging
     requires { PlanReady numbers.now c s d }
-    ensures { result ≡ plannedLeg (venueOf numbers.now) c s d }
+    ensures { result ≡ planned_leg (venue_of numbers.now) c s d }
 {
     let none = rules::NO_LEGGING;
     let sides = levels::sides_at(numbers, c, s, d);
@@ -188,7 +188,7 @@ fn plan_leg(numbers: &[u32], c: Complex, s: u8, d: u8) -> Legging
 // The ceiling lets the message of this number make one more in series s: there were fewer than 20, or the oldest of the last 20 was 256 or more messages ago.
 fn is_under_ceiling(numbers: &[u32], number: u32, s: u8) -> bool
     requires { SeriesReady numbers.now s }
-    ensures { result ≡ underCeiling number (generationsOf (venueOf numbers.now) s) }
+    ensures { result ≡ under_ceiling number (generations_of (venue_of numbers.now) s) }
 {
     let oldest = places::oldest_at(numbers, s as usize);
     if oldest == 0 {
@@ -208,8 +208,8 @@ fn make_leg(
     out: &mut [u8],
     at: usize,
 ) -> usize
-    requires { (length numbers.old ≡ size) × (s < 8) × (d < 2) × (displayedPrice (increment (venueOf numbers.old) s) d l.price ≤ 100000) × (Figured numbers.old) }
-    ensures result_after { stage (venueOf numbers.new) out.new result ≡ seen out.old at does madeBy number id s d l (venueOf numbers.old) }
+    requires { (length numbers.old ≡ size) × (s < 8) × (d < 2) × (displayed_price (increment (venue_of numbers.old) s) d l.price ≤ 100000) × (Figured numbers.old) }
+    ensures result_after { stage (venue_of numbers.new) out.new result ≡ seen out.old at does made_by number id s d l (venue_of numbers.old) }
     ensures counts { SameCounts numbers.old numbers.new }
 {
     let displayed = settling::displayed_in_series(numbers, s, d, l.price) as u32;
@@ -231,7 +231,7 @@ pub fn generate_leg(
     at: usize,
 ) -> usize
     requires { PlanReady numbers.old c s d }
-    ensures result_after { stage (venueOf numbers.new) out.new result ≡ seen out.old at does generateLeg number c s d (venueOf numbers.old) }
+    ensures result_after { stage (venue_of numbers.new) out.new result ≡ seen out.old at does generate_leg number c s d (venue_of numbers.old) }
     ensures counts { SameCounts numbers.old numbers.new }
 {
     let l = plan_leg(numbers, c, s, d);
@@ -256,7 +256,7 @@ pub fn generate_order(
     at: usize,
 ) -> usize
     requires { RightNumbers numbers.old }
-    ensures result_after { stage (venueOf numbers.new) out.new result ≡ seen out.old at does generate number i (venueOf numbers.old) }
+    ensures result_after { stage (venue_of numbers.new) out.new result ≡ seen out.old at does generate number i (venue_of numbers.old) }
     ensures counts { SameCounts numbers.old numbers.new }
 {
     if places::complexes_used(numbers) <= i {

@@ -13,11 +13,11 @@ use Rattle.places.proofs.Tables.{upto-length, upto-more}
 use Rattle.sets.specs.Promises.{AllBytes}
 use Rattle.sets.proofs.Spelled.{At, u8-at, u32-at, join, all-at, bytes_drop}
 use Rattle.sets.proofs.WriteBack.{bytes_take}
-use Rattle.venue_bytes.specs.Held.{venueSize, venueBytes, venueFrom, rows}
+use Rattle.venue_bytes.specs.Held.{venue_size, venue_bytes, venue_from, rows}
 use Rattle.venue_bytes.proofs.Rows.{rows_append}
 use Rattle.venue_bytes.proofs.BytesBack as venue
-use Rattle.lanes.specs.Memory.{doneAt, countAt, places_at, placeSize, laneSize, last_at, layerSize, messageFrom, placeFrom, laneFrom, lanePart, lane_of, layerFrom}
-use Rattle.lanes.specs.Memory.{placeBytes, laneBytes, layerBytes}
+use Rattle.lanes.specs.Memory.{done_at, count_at, places_at, place_size, lane_size, last_at, layer_size, message_from, place_from, lane_from, lane_part, lane_of, layer_from}
+use Rattle.lanes.specs.Memory.{place_bytes, lane_bytes, layer_bytes}
 use Rattle.lanes.specs.Canonical.{CanonicalLane, Canonical, BytesBack, EqualBytes}
 use Rattle.lanes.proofs.Bytes.{part_length}
 use Rattle.lanes.proofs.Figures.{place-length}
@@ -77,86 +77,86 @@ module _ (bs : List ℕ) (all : AllBytes bs) where
   byte-stands at h = record { here = u8-at bs all at h; long = refl }
 
   -- a message in its place
-  place-stands : (at : ℕ) → at + placeSize ≤ length bs → u8_at bs at ≤ 32 → ((k : ℕ) → u8_at bs at < k → k ≤ 32 → u8_at bs (at + k) ≡ 0) →
-      Stands bs at placeSize (placeBytes (messageFrom (drop at bs)))
-  unfolding placeBytes
+  place-stands : (at : ℕ) → at + place_size ≤ length bs → u8_at bs at ≤ 32 → ((k : ℕ) → u8_at bs at < k → k ≤ 32 → u8_at bs (at + k) ≡ 0) →
+      Stands bs at place_size (place_bytes (message_from (drop at bs)))
+  unfolding place_bytes
   place-stands at inside short after =
       let n : ℕ = u8_at bs at in
       let m : List ℕ = take n (drop (at + 1) bs) in
       let z : at + 0 ≡ at = omega arith in
-      let is : m ≡ messageFrom (drop at bs) =
+      let is : m ≡ message_from (drop at bs) =
       ap (take n) (sym (drop-drop 1 at bs)) ∙ message-here (drop at bs) n (sym (u8-drop at bs 0 ∙ ap (u8_at bs) z)) (omega (arith, length-drop at bs)) in
       let long : length m ≡ n = part_length bs (at + 1) n (omega arith) in
       let zeros : Stands bs (at + (1 + n)) (32 - n) (replicate (32 - n) 0) =
       zeros-stand bs (at + (1 + n)) (32 - n) (omega arith) (λ i h. ap (u8_at bs) (further n i) ∙ after (1 + n + i) (omega arith) (omega arith)) in
-      let size : 1 + n + (32 - n) ≡ placeSize = omega arith in
-      let whole : Stands bs at placeSize (u8 n ++ m ++ replicate (32 - n) 0) =
+      let size : 1 + n + (32 - n) ≡ place_size = omega arith in
+      let whole : Stands bs at place_size (u8 n ++ m ++ replicate (32 - n) 0) =
       subst (λ (k : ℕ). Stands bs at k (u8 n ++ m ++ replicate (32 - n) 0)) size
       (and bs at (at + (1 + n)) (1 + n) (32 - n) (u8 n ++ m) (replicate (32 - n) 0) refl
       (and bs at (at + 1) 1 n (u8 n) m refl (byte-stands at (omega arith)) (part-stands bs (at + 1) n (omega arith))) zeros) in
-      subst (λ (x : List ℕ). Stands bs at placeSize (u8 (length x) ++ x ++ replicate (32 - length x) 0)) is
-      (subst (λ (k : ℕ). Stands bs at placeSize (u8 k ++ m ++ replicate (32 - k) 0)) (sym long) whole)
+      subst (λ (x : List ℕ). Stands bs at place_size (u8 (length x) ++ x ++ replicate (32 - length x) 0)) is
+      (subst (λ (k : ℕ). Stands bs at place_size (u8 k ++ m ++ replicate (32 - k) 0)) (sym long) whole)
     where
       further : (n i : ℕ) → at + (1 + n) + i ≡ at + (1 + n + i)
       further n i = omega arith
 
-  module _ (size : length bs ≡ laneSize) (c : CanonicalLane bs) where
+  module _ (size : length bs ≡ lane_size) (c : CanonicalLane bs) where
     abbrev n : ℕ
-    n = u8_at bs countAt
+    n = u8_at bs count_at
 
-    places-stand : Stands bs places_at (placeSize * n) (rows placeBytes (upto (placeFrom bs) 0 n))
-    unfolding placeFrom
+    places-stand : Stands bs places_at (place_size * n) (rows place_bytes (upto (place_from bs) 0 n))
+    unfolding place_from
     places-stand =
-        rows-stand placeBytes placeSize (placeFrom bs) places_at bs n (λ i h.
-        let e : placeSize * i + places_at ≡ places_at + placeSize * i = omega arith in
+        rows-stand place_bytes place_size (place_from bs) places_at bs n (λ i h.
+        let e : place_size * i + places_at ≡ places_at + place_size * i = omega arith in
         let f = c.few in
-        subst (λ (at : ℕ). Stands bs at placeSize (placeBytes (messageFrom (drop (placeSize * i + places_at) bs)))) e
-        (place-stands (placeSize * i + places_at) (omega arith) (c.short i h) (λ k. c.after i k h)))
+        subst (λ (at : ℕ). Stands bs at place_size (place_bytes (message_from (drop (place_size * i + places_at) bs)))) e
+        (place-stands (place_size * i + places_at) (omega arith) (c.short i h) (λ k. c.after i k h)))
 
-    whole : Stands bs 0 laneSize (take venueSize bs ++ u32 (u32_at bs doneAt) ++ u8 n ++ rows placeBytes (upto (placeFrom bs) 0 n) ++ replicate (placeSize * (8 - n)) 0)
+    whole : Stands bs 0 lane_size (take venue_size bs ++ u32 (u32_at bs done_at) ++ u8 n ++ rows place_bytes (upto (place_from bs) 0 n) ++ replicate (place_size * (8 - n)) 0)
     unfolding bytes
     whole =
         let f = c.few in
-        let front = part-stands bs 0 venueSize (omega arith) in
-        let done : Stands bs doneAt 4 (u32 (u32_at bs doneAt)) = record { here = u32-at bs all doneAt (omega arith); long = refl } in
-        let free : Stands bs (places_at + placeSize * n) (placeSize * (8 - n)) (replicate (placeSize * (8 - n)) 0) =
-        zeros-stand bs (places_at + placeSize * n) (placeSize * (8 - n)) (omega arith) (λ i h. c.free (places_at + placeSize * n + i) (omega arith)) in
-        let e : places_at + placeSize * n + placeSize * (8 - n) ≡ laneSize = omega arith in
-        subst (λ (k : ℕ). Stands bs 0 k (take venueSize bs ++ u32 (u32_at bs doneAt) ++ u8 n ++ rows placeBytes (upto (placeFrom bs) 0 n) ++ replicate (placeSize * (8 - n)) 0)) e
-        (and bs 0 (places_at + placeSize * n) (places_at + placeSize * n) (placeSize * (8 - n)) _ _ (omega arith)
-        (and bs 0 places_at places_at (placeSize * n) _ _ refl
-        (and bs 0 countAt countAt 1 _ _ refl (and bs 0 doneAt venueSize 4 _ _ refl front done) (byte-stands countAt (omega arith))) places-stand) free)
+        let front = part-stands bs 0 venue_size (omega arith) in
+        let done : Stands bs done_at 4 (u32 (u32_at bs done_at)) = record { here = u32-at bs all done_at (omega arith); long = refl } in
+        let free : Stands bs (places_at + place_size * n) (place_size * (8 - n)) (replicate (place_size * (8 - n)) 0) =
+        zeros-stand bs (places_at + place_size * n) (place_size * (8 - n)) (omega arith) (λ i h. c.free (places_at + place_size * n + i) (omega arith)) in
+        let e : places_at + place_size * n + place_size * (8 - n) ≡ lane_size = omega arith in
+        subst (λ (k : ℕ). Stands bs 0 k (take venue_size bs ++ u32 (u32_at bs done_at) ++ u8 n ++ rows place_bytes (upto (place_from bs) 0 n) ++ replicate (place_size * (8 - n)) 0)) e
+        (and bs 0 (places_at + place_size * n) (places_at + place_size * n) (place_size * (8 - n)) _ _ (omega arith)
+        (and bs 0 places_at places_at (place_size * n) _ _ refl
+        (and bs 0 count_at count_at 1 _ _ refl (and bs 0 done_at venue_size 4 _ _ refl front done) (byte-stands count_at (omega arith))) places-stand) free)
 
-    lane-back : laneBytes (laneFrom bs) ≡ bs
-    unfolding laneBytes laneFrom
+    lane-back : lane_bytes (lane_from bs) ≡ bs
+    unfolding lane_bytes lane_from
     lane-back =
         let w = whole in
-        let rest : List ℕ = rows placeBytes (upto (placeFrom bs) 0 n) in
-        ap₂ (λ (x : List ℕ) (k : ℕ). x ++ u32 (u32_at bs doneAt) ++ u8 k ++ rest ++ replicate (placeSize * (8 - k)) 0)
-        (venue.bytes_back (take venueSize bs) (bytes_take venueSize bs all) (part_length bs 0 venueSize (omega arith))) (upto-length (placeFrom bs) 0 n)
+        let rest : List ℕ = rows place_bytes (upto (place_from bs) 0 n) in
+        ap₂ (λ (x : List ℕ) (k : ℕ). x ++ u32 (u32_at bs done_at) ++ u8 k ++ rest ++ replicate (place_size * (8 - k)) 0)
+        (venue.bytes_back (take venue_size bs) (bytes_take venue_size bs all) (part_length bs 0 venue_size (omega arith))) (upto-length (place_from bs) 0 n)
         ∙ all-at bs _ w.here (w.long ∙ sym size)
 
 -- The layer -----------------------------------------------------------------------------------
 
-module _ (m : List ℕ) (all : AllBytes m) (size : length m ≡ layerSize) (canonical : Canonical m) where
-  lane-stands : (v : ℕ) → v < 4 → Stands m (0 + laneSize * v) laneSize (laneBytes (lane_of m v))
+module _ (m : List ℕ) (all : AllBytes m) (size : length m ≡ layer_size) (canonical : Canonical m) where
+  lane-stands : (v : ℕ) → v < 4 → Stands m (0 + lane_size * v) lane_size (lane_bytes (lane_of m v))
   unfolding lane_of
   lane-stands v h =
-      let z : laneSize * v ≡ 0 + laneSize * v = omega arith in
-      let long : length (lanePart m v) ≡ laneSize = unfold lanePart in (part_length m (laneSize * v) laneSize (omega arith)) in
-      let clean : AllBytes (lanePart m v) = unfold lanePart in (bytes_take laneSize (drop (laneSize * v) m) (bytes_drop (laneSize * v) m all)) in
-      let part : Stands m (laneSize * v) laneSize (lanePart m v) = unfold lanePart in (part-stands m (laneSize * v) laneSize (omega arith)) in
-      subst (λ (at : ℕ). Stands m at laneSize (laneBytes (laneFrom (lanePart m v)))) z
-      (subst (Stands m (laneSize * v) laneSize) (sym (lane-back (lanePart m v) clean long (canonical v h))) part)
+      let z : lane_size * v ≡ 0 + lane_size * v = omega arith in
+      let long : length (lane_part m v) ≡ lane_size = unfold lane_part in (part_length m (lane_size * v) lane_size (omega arith)) in
+      let clean : AllBytes (lane_part m v) = unfold lane_part in (bytes_take lane_size (drop (lane_size * v) m) (bytes_drop (lane_size * v) m all)) in
+      let part : Stands m (lane_size * v) lane_size (lane_part m v) = unfold lane_part in (part-stands m (lane_size * v) lane_size (omega arith)) in
+      subst (λ (at : ℕ). Stands m at lane_size (lane_bytes (lane_from (lane_part m v)))) z
+      (subst (Stands m (lane_size * v) lane_size) (sym (lane-back (lane_part m v) clean long (canonical v h))) part)
 
-  layer-stands : Stands m 0 layerSize (layerBytes (layerFrom m))
-  unfolding layerBytes layerFrom
+  layer-stands : Stands m 0 layer_size (layer_bytes (layer_from m))
+  unfolding layer_bytes layer_from
   layer-stands =
-      and m 0 last_at last_at 1 (rows laneBytes (upto (lane_of m) 0 4)) (u8 (u8_at m last_at)) refl
-      (rows-stand laneBytes laneSize (lane_of m) 0 m 4 lane-stands) (byte-stands m all last_at (omega arith))
+      and m 0 last_at last_at 1 (rows lane_bytes (upto (lane_of m) 0 4)) (u8 (u8_at m last_at)) refl
+      (rows-stand lane_bytes lane_size (lane_of m) 0 m 4 lane-stands) (byte-stands m all last_at (omega arith))
 
 pub bytes_back : BytesBack
-bytes_back m all size canonical = let w = layer-stands m all size canonical in all-at m (layerBytes (layerFrom m)) w.here (w.long ∙ sym size)
+bytes_back m all size canonical = let w = layer-stands m all size canonical in all-at m (layer_bytes (layer_from m)) w.here (w.long ∙ sym size)
 
 pub equal-bytes : EqualBytes
-equal-bytes a b all-a all-b size-a size-b ca cb e = sym (bytes_back a all-a size-a ca) ∙ ap layerBytes e ∙ bytes_back b all-b size-b cb
+equal-bytes a b all-a all-b size-a size-b ca cb e = sym (bytes_back a all-a size-a ca) ∙ ap layer_bytes e ∙ bytes_back b all-b size-b cb

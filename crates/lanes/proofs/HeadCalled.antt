@@ -12,31 +12,31 @@ use lib.Seq.{length-take-le, take_at, drop_at, drop-append-le, drop-drop, get_or
 use borrow.Author.Tests.{eq-eqb}
 use Rattle.rules.specs.declared.Venue.{Venue}
 use Rattle.rules.specs.Base.{if◌then◌else◌}
-use Rattle.rules.specs.Bytes.{u8_at, u16At, u32_at, u8, u32, bytes}
+use Rattle.rules.specs.Bytes.{u8_at, u16_at, u32_at, u8, u32, bytes}
 use Rattle.rules.specs.Calls.{Call, one}
 use Rattle.rules.proofs.Reading.{byte, word}
 use Rattle.demands.specs.Soundness.{Shaped}
 use Rattle.wire.proofs.Numbers.{u8-drop, u32-here}
 use Rattle.places.specs.Layout.{upto}
 use Rattle.places.proofs.Tables.{upto-at, upto-same}
-use Rattle.venue_bytes.specs.Held.{venueSize, venueBytes, venueFrom}
+use Rattle.venue_bytes.specs.Held.{venue_size, venue_bytes, venue_from}
 use Rattle.venue_writer.proofs.Whole.{venue-length}
-use Rattle.engine.specs.Hosts.{oneHosted, leaves}
+use Rattle.engine.specs.Hosts.{one_hosted, leaves}
 use Rattle.engine.proofs.HostsLaws.{held-shaped, held_next}
-use Rattle.layer.specs.Layer.{waitSound, head, headCall, advanced}
+use Rattle.layer.specs.Layer.{wait_sound, head, head_call, advanced}
 use Rattle.layer.proofs.Ways.{sound-for-in, sound-for-out, ending, does}
-use Rattle.lanes.specs.Memory.{doneAt, countAt, places_at, placeSize, laneSize, messageFrom, placeFrom, laneFrom, headCalled, venuePart, movedBytes, advancedBytes}
+use Rattle.lanes.specs.Memory.{done_at, count_at, places_at, place_size, lane_size, message_from, place_from, lane_from, head_called, venue_part, moved_bytes, advanced_bytes}
 use Rattle.lanes.specs.Canonical.{CanonicalLane}
 use Rattle.lanes.proofs.Places.{message-same, waits-short}
 use Rattle.lanes.proofs.WaitJoined.{lane-eq}
 
 -- the message at the head
-pub head-called : (bs : List ℕ) (room : ℕ) → 0 < u8_at bs countAt → headCall (laneFrom bs) room ≡ headCalled bs room
-unfolding headCall headCalled head laneFrom
-head-called bs room h = ap (one (venueFrom (take venueSize bs)) (u32_at bs doneAt) room) (upto-at (placeFrom bs) [] 0 (u8_at bs countAt) 0 h)
+pub head-called : (bs : List ℕ) (room : ℕ) → 0 < u8_at bs count_at → head_call (lane_from bs) room ≡ head_called bs room
+unfolding head_call head_called head lane_from
+head-called bs room h = ap (one (venue_from (take venue_size bs)) (u32_at bs done_at) room) (upto-at (place_from bs) [] 0 (u8_at bs count_at) 0 h)
 
 u32-front : (x : ℕ) (rest : List ℕ) → x < 4294967296 → u32_at (u32 x ++ rest) 0 ≡ x
-unfolding bytes u8_at u16At u32_at
+unfolding bytes u8_at u16_at u32_at
 u32-front x rest h = word x h
 
 u8-front : (x : ℕ) (rest : List ℕ) → x < 256 → u8_at (u8 x ++ rest) 0 ≡ x
@@ -54,16 +54,16 @@ zero_in (suc n) zero = refl
 zero_in (suc n) (suc i) = zero_in n i
 
 -- the places of a wait, one place down
-module _ (bs : List ℕ) (x : List ℕ) (d c : ℕ) (size : length bs ≡ laneSize) (venue : length x ≡ venueSize) where
+module _ (bs : List ℕ) (x : List ℕ) (d c : ℕ) (size : length bs ≡ lane_size) (venue : length x ≡ venue_size) where
   -- what stands after the venue
   abbrev rest : List ℕ
-  rest = drop (places_at + placeSize) bs ++ replicate placeSize 0
+  rest = drop (places_at + place_size) bs ++ replicate place_size 0
 
   abbrev moved : List ℕ
-  moved = x ++ u32 d ++ u8 c ++ drop (places_at + placeSize) bs ++ replicate placeSize 0
+  moved = x ++ u32 d ++ u8 c ++ drop (places_at + place_size) bs ++ replicate place_size 0
 
-  rest-size : length (drop (places_at + placeSize) bs) ≡ 7 * placeSize
-  rest-size = length-drop (places_at + placeSize) bs ∙ omega arith
+  rest-size : length (drop (places_at + place_size) bs) ≡ 7 * place_size
+  rest-size = length-drop (places_at + place_size) bs ∙ omega arith
 
   from-venue : moved ≡ x ++ (u32 d ++ (u8 c ++ rest))
   from-venue = simp append_assoc
@@ -74,7 +74,7 @@ module _ (bs : List ℕ) (x : List ℕ) (d c : ℕ) (size : length bs ≡ laneSi
   from_places : moved ≡ (x ++ u32 d ++ u8 c) ++ rest
   from_places = simp append_assoc
 
-  before-count : length (x ++ u32 d) ≡ countAt
+  before-count : length (x ++ u32 d) ≡ count_at
   unfolding bytes
   before-count = length-append x (u32 d) ∙ omega arith
 
@@ -82,116 +82,116 @@ module _ (bs : List ℕ) (x : List ℕ) (d c : ℕ) (size : length bs ≡ laneSi
   unfolding bytes
   before-places = length-append (x ++ u32 d) (u8 c) ∙ omega (arith, before-count)
 
-  pub moved-size : length moved ≡ laneSize
+  pub moved-size : length moved ≡ lane_size
   moved-size = ap length from_places ∙ length-append (x ++ u32 d ++ u8 c) rest
-      ∙ omega (arith, before-places, length-append (drop (places_at + placeSize) bs) (replicate placeSize 0), rest-size, length-replicate {A = ℕ} placeSize 0)
+      ∙ omega (arith, before-places, length-append (drop (places_at + place_size) bs) (replicate place_size 0), rest-size, length-replicate {A = ℕ} place_size 0)
 
-  moved-venue : take venueSize moved ≡ x
-  moved-venue = ap (take venueSize) from-venue ∙ take_at x _ venueSize venue
+  moved-venue : take venue_size moved ≡ x
+  moved-venue = ap (take venue_size) from-venue ∙ take_at x _ venue_size venue
 
-  moved-done : d < 4294967296 → u32_at moved doneAt ≡ d
-  moved-done h = u32-here doneAt moved ∙ ap (λ (y : List ℕ). u32_at y 0) (ap (drop doneAt) from-venue ∙ drop_at x _ doneAt venue) ∙ u32-front d _ h
+  moved-done : d < 4294967296 → u32_at moved done_at ≡ d
+  moved-done h = u32-here done_at moved ∙ ap (λ (y : List ℕ). u32_at y 0) (ap (drop done_at) from-venue ∙ drop_at x _ done_at venue) ∙ u32-front d _ h
 
-  moved-count : c < 256 → u8_at moved countAt ≡ c
+  moved-count : c < 256 → u8_at moved count_at ≡ c
   moved-count h =
-      let z : countAt + 0 ≡ countAt = omega arith in
-      ap (u8_at moved) (sym z) ∙ sym (u8-drop countAt moved 0) ∙ ap (λ (y : List ℕ). u8_at y 0) (ap (drop countAt) from-count ∙ drop_at (x ++ u32 d) _ countAt before-count) ∙ u8-front c _ h
+      let z : count_at + 0 ≡ count_at = omega arith in
+      ap (u8_at moved) (sym z) ∙ sym (u8-drop count_at moved 0) ∙ ap (λ (y : List ℕ). u8_at y 0) (ap (drop count_at) from-count ∙ drop_at (x ++ u32 d) _ count_at before-count) ∙ u8-front c _ h
 
   -- place i from where the next one was
-  moved-from : (i : ℕ) → i < 7 → drop (placeSize * i + places_at) moved ≡ drop (placeSize * suc i + places_at) bs ++ replicate placeSize 0
+  moved-from : (i : ℕ) → i < 7 → drop (place_size * i + places_at) moved ≡ drop (place_size * suc i + places_at) bs ++ replicate place_size 0
   moved-from i h =
-      let p : placeSize * i + places_at ≡ places_at + placeSize * i = omega arith in
-      let q : places_at + placeSize + placeSize * i ≡ placeSize * suc i + places_at = omega arith in
-      ap (λ (k : ℕ). drop k moved) p ∙ sym (drop-drop (placeSize * i) places_at moved)
-      ∙ ap (drop (placeSize * i)) (ap (drop places_at) from_places ∙ drop_at (x ++ u32 d ++ u8 c) rest places_at before-places)
-      ∙ drop-append-le (placeSize * i) (drop (places_at + placeSize) bs) (replicate placeSize 0) (omega (arith, rest-size))
-      ∙ ap (λ (y : List ℕ). y ++ replicate placeSize 0) (drop-drop (placeSize * i) (places_at + placeSize) bs ∙ ap (λ (k : ℕ). drop k bs) q)
+      let p : place_size * i + places_at ≡ places_at + place_size * i = omega arith in
+      let q : places_at + place_size + place_size * i ≡ place_size * suc i + places_at = omega arith in
+      ap (λ (k : ℕ). drop k moved) p ∙ sym (drop-drop (place_size * i) places_at moved)
+      ∙ ap (drop (place_size * i)) (ap (drop places_at) from_places ∙ drop_at (x ++ u32 d ++ u8 c) rest places_at before-places)
+      ∙ drop-append-le (place_size * i) (drop (places_at + place_size) bs) (replicate place_size 0) (omega (arith, rest-size))
+      ∙ ap (λ (y : List ℕ). y ++ replicate place_size 0) (drop-drop (place_size * i) (places_at + place_size) bs ∙ ap (λ (k : ℕ). drop k bs) q)
 
-  moved-place : (i : ℕ) → i < 7 → u8_at bs (placeSize * suc i + places_at) ≤ 32 → placeFrom moved i ≡ placeFrom bs (suc i)
-  unfolding placeFrom
+  moved-place : (i : ℕ) → i < 7 → u8_at bs (place_size * suc i + places_at) ≤ 32 → place_from moved i ≡ place_from bs (suc i)
+  unfolding place_from
   moved-place i h short =
-      let p : ℕ = placeSize * suc i + places_at in
+      let p : ℕ = place_size * suc i + places_at in
       let z : p + 0 ≡ p = omega arith in
-      ap messageFrom (moved-from i h)
-      ∙ message-same (drop p bs ++ replicate placeSize 0) (drop p bs) (omega (arith, u8-drop p bs 0 ∙ ap (u8_at bs) z))
-      (λ j k. unfold u8_at in (get_or-append (drop p bs) (replicate placeSize 0) 0 j (omega (arith, length-drop p bs))))
+      ap message_from (moved-from i h)
+      ∙ message-same (drop p bs ++ replicate place_size 0) (drop p bs) (omega (arith, u8-drop p bs 0 ∙ ap (u8_at bs) z))
+      (λ j k. unfold u8_at in (get_or-append (drop p bs) (replicate place_size 0) 0 j (omega (arith, length-drop p bs))))
 
-  moved-wait : (n : ℕ) → suc c ≡ n → n ≤ 8 → ((i : ℕ) → i < n → u8_at bs (placeSize * i + places_at) ≤ 32) → upto (placeFrom moved) 0 (u8_at moved countAt) ≡ drop 1 (upto (placeFrom bs) 0 n)
+  moved-wait : (n : ℕ) → suc c ≡ n → n ≤ 8 → ((i : ℕ) → i < n → u8_at bs (place_size * i + places_at) ≤ 32) → upto (place_from moved) 0 (u8_at moved count_at) ≡ drop 1 (upto (place_from bs) 0 n)
   unfolding upto
   moved-wait n e few short =
-      ap (upto (placeFrom moved) 0) (moved-count (omega arith))
-      ∙ upto-same (placeFrom moved) (λ (j : ℕ). placeFrom bs (suc j)) 0 c (λ i _ h. moved-place i (omega arith) (short (suc i) (omega arith)))
-      ∙ upto_next (placeFrom bs) 0 c ∙ ap (λ (k : ℕ). drop 1 (upto (placeFrom bs) 0 k)) e
+      ap (upto (place_from moved) 0) (moved-count (omega arith))
+      ∙ upto-same (place_from moved) (λ (j : ℕ). place_from bs (suc j)) 0 c (λ i _ h. moved-place i (omega arith) (short (suc i) (omega arith)))
+      ∙ upto_next (place_from bs) 0 c ∙ ap (λ (k : ℕ). drop 1 (upto (place_from bs) 0 k)) e
 
   -- byte by byte
-  rest-byte : (j : ℕ) → get_or rest j 0 ≡ get_or bs (places_at + placeSize + j) 0
-  rest-byte j = elim (dec_lt j (7 * placeSize)) [
-    | yes p ↦ get_or-append (drop (places_at + placeSize) bs) (replicate placeSize 0) 0 j (omega (arith, rest-size)) ∙ get_or-drop (places_at + placeSize) bs j 0
-    | no p ↦ ap (λ (i : ℕ). get_or rest i 0) (past j p) ∙ get_or-append-add (drop (places_at + placeSize) bs) (replicate placeSize 0) (j - 7 * placeSize) 0
-        ∙ zero_in placeSize (j - 7 * placeSize) ∙ sym (get_or-eq_default bs 0 {n = places_at + placeSize + j} (omega arith))
+  rest-byte : (j : ℕ) → get_or rest j 0 ≡ get_or bs (places_at + place_size + j) 0
+  rest-byte j = elim (dec_lt j (7 * place_size)) [
+    | yes p ↦ get_or-append (drop (places_at + place_size) bs) (replicate place_size 0) 0 j (omega (arith, rest-size)) ∙ get_or-drop (places_at + place_size) bs j 0
+    | no p ↦ ap (λ (i : ℕ). get_or rest i 0) (past j p) ∙ get_or-append-add (drop (places_at + place_size) bs) (replicate place_size 0) (j - 7 * place_size) 0
+        ∙ zero_in place_size (j - 7 * place_size) ∙ sym (get_or-eq_default bs 0 {n = places_at + place_size + j} (omega arith))
   ]
     where
-      past : (j : ℕ) → (j < 7 * placeSize → ⊥) → j ≡ length (drop (places_at + placeSize) bs) + (j - 7 * placeSize)
+      past : (j : ℕ) → (j < 7 * place_size → ⊥) → j ≡ length (drop (places_at + place_size) bs) + (j - 7 * place_size)
       past j p = omega (arith, rest-size)
 
-  moved-byte : (k : ℕ) → places_at ≤ k → u8_at moved k ≡ u8_at bs (k + placeSize)
+  moved-byte : (k : ℕ) → places_at ≤ k → u8_at moved k ≡ u8_at bs (k + place_size)
   unfolding u8_at
   moved-byte k h =
       let e : k ≡ length (x ++ u32 d ++ u8 c) + (k - places_at) = omega (arith, before-places) in
-      let f : places_at + placeSize + (k - places_at) ≡ k + placeSize = omega arith in
+      let f : places_at + place_size + (k - places_at) ≡ k + place_size = omega arith in
       ap (λ (i : ℕ). get_or moved i 0) e ∙ ap (λ (l : List ℕ). get_or l (length (x ++ u32 d ++ u8 c) + (k - places_at)) 0) from_places
       ∙ get_or-append-add (x ++ u32 d ++ u8 c) rest (k - places_at) 0 ∙ rest-byte (k - places_at) ∙ ap (λ (i : ℕ). get_or bs i 0) f
 
-  pub moved-canonical : CanonicalLane bs → suc c ≡ u8_at bs countAt → CanonicalLane moved
+  pub moved-canonical : CanonicalLane bs → suc c ≡ u8_at bs count_at → CanonicalLane moved
   moved-canonical w e =
       let most = w.few in
       let count = moved-count (omega arith) in
       record {
         few = omega arith;
-        short = λ i h. let a : placeSize * i + places_at + placeSize ≡ placeSize * suc i + places_at = omega arith in
-            omega (arith, w.short (suc i) (omega arith), moved-byte (placeSize * i + places_at) (omega arith) ∙ ap (u8_at bs) a);
-        after = λ i k h g l. let a : placeSize * i + places_at + placeSize ≡ placeSize * suc i + places_at = omega arith in
-            let b : placeSize * i + places_at + k + placeSize ≡ placeSize * suc i + places_at + k = omega arith in
-            moved-byte (placeSize * i + places_at + k) (omega arith) ∙ ap (u8_at bs) b
-            ∙ w.after (suc i) k (omega arith) (omega (arith, moved-byte (placeSize * i + places_at) (omega arith) ∙ ap (u8_at bs) a)) l;
-        free = λ k h. moved-byte k (omega arith) ∙ w.free (k + placeSize) (omega arith);
+        short = λ i h. let a : place_size * i + places_at + place_size ≡ place_size * suc i + places_at = omega arith in
+            omega (arith, w.short (suc i) (omega arith), moved-byte (place_size * i + places_at) (omega arith) ∙ ap (u8_at bs) a);
+        after = λ i k h g l. let a : place_size * i + places_at + place_size ≡ place_size * suc i + places_at = omega arith in
+            let b : place_size * i + places_at + k + place_size ≡ place_size * suc i + places_at + k = omega arith in
+            moved-byte (place_size * i + places_at + k) (omega arith) ∙ ap (u8_at bs) b
+            ∙ w.after (suc i) k (omega arith) (omega (arith, moved-byte (place_size * i + places_at) (omega arith) ∙ ap (u8_at bs) a)) l;
+        free = λ k h. moved-byte k (omega arith) ∙ w.free (k + place_size) (omega arith);
       }
 
 -- The lane ------------------------------------------------------------------------------------
 
-module _ (bs : List ℕ) (room : ℕ) (size : length bs ≡ laneSize) (fine : waitSound (laneFrom bs).wait ≡ true) (some : 0 < u8_at bs countAt) (few : u8_at bs countAt ≤ 8) where
+module _ (bs : List ℕ) (room : ℕ) (size : length bs ≡ lane_size) (fine : wait_sound (lane_from bs).wait ≡ true) (some : 0 < u8_at bs count_at) (few : u8_at bs count_at ≤ 8) where
   abbrev r : Call
-  r = headCalled bs room
+  r = head_called bs room
 
   -- the venue's bytes, as a host's call leaves them
   abbrev venue-after : List ℕ
-  venue-after = venuePart bs r.returned.number r.returned.venue
+  venue-after = venue_part bs r.returned.number r.returned.venue
 
-  front-size : length (take venueSize bs) ≡ venueSize
-  front-size = length-take-le venueSize bs (omega arith)
+  front-size : length (take venue_size bs) ≡ venue_size
+  front-size = length-take-le venue_size bs (omega arith)
 
-  venue-held : venueFrom venue-after ≡ r.returned.venue
-  unfolding headCalled
-  venue-held = sym (ap venueFrom is) ∙ held_next (take venueSize bs) (u32_at bs doneAt) room (placeFrom bs 0) front-size
+  venue-held : venue_from venue-after ≡ r.returned.venue
+  unfolding head_called
+  venue-held = sym (ap venue_from is) ∙ held_next (take venue_size bs) (u32_at bs done_at) room (place_from bs 0) front-size
     where
-      is : (oneHosted (take venueSize bs) (u32_at bs doneAt) room (placeFrom bs 0)).venue ≡ venue-after
-      is = unfold oneHosted leaves venuePart in (rw (eq-eqb (length (take venueSize bs)) venueSize front-size))
+      is : (one_hosted (take venue_size bs) (u32_at bs done_at) room (place_from bs 0)).venue ≡ venue-after
+      is = unfold one_hosted leaves venue_part in (rw (eq-eqb (length (take venue_size bs)) venue_size front-size))
 
   -- its bytes are as many as before
-  pub venue-kept : r.returned.done ≢ 0 → length venue-after ≡ venueSize
-  unfolding headCalled venuePart
+  pub venue-kept : r.returned.done ≢ 0 → length venue-after ≡ venue_size
+  unfolding head_called venue_part
   venue-kept done = go (eqb r.returned.number 0)
     where
       v : Venue
-      v = venueFrom (take venueSize bs)
+      v = venue_from (take venue_size bs)
 
       after : Shaped r.returned.venue
       after =
-          let e = ending v (u32_at bs doneAt) room (placeFrom bs 0) in
-          let k = does v (u32_at bs doneAt) room r e done in
-          (sound-for-out r.returned.venue (suc (u32_at bs doneAt)) (k.stays (sound-for-in v (u32_at bs doneAt) (held-shaped (take venueSize bs)) k.was))).0
+          let e = ending v (u32_at bs done_at) room (place_from bs 0) in
+          let k = does v (u32_at bs done_at) room r e done in
+          (sound-for-out r.returned.venue (suc (u32_at bs done_at)) (k.stays (sound-for-in v (u32_at bs done_at) (held-shaped (take venue_size bs)) k.was))).0
 
-      go : (b : Bool) → length (if b then venueBytes r.returned.venue else take venueSize bs) ≡ venueSize
+      go : (b : Bool) → length (if b then venue_bytes r.returned.venue else take venue_size bs) ≡ venue_size
       go true = venue-length r.returned.venue
           (record {
             regular = after.regular;
@@ -203,23 +203,23 @@ module _ (bs : List ℕ) (room : ℕ) (size : length bs ≡ laneSize) (fine : wa
           })
       go false = front-size
 
-  pub lane-advanced : r.returned.done ≢ 0 → laneFrom (advancedBytes bs r.returned.number r.returned.venue) ≡ advanced (laneFrom bs) (headCall (laneFrom bs) room)
-  unfolding laneFrom advanced advancedBytes movedBytes
+  pub lane-advanced : r.returned.done ≢ 0 → lane_from (advanced_bytes bs r.returned.number r.returned.venue) ≡ advanced (lane_from bs) (head_call (lane_from bs) room)
+  unfolding lane_from advanced advanced_bytes moved_bytes
   lane-advanced done =
       let kept = venue-kept done in
-      let k = does (venueFrom (take venueSize bs)) (u32_at bs doneAt) room r (unfold headCalled in (ending (venueFrom (take venueSize bs)) (u32_at bs doneAt) room (placeFrom bs 0))) done in
+      let k = does (venue_from (take venue_size bs)) (u32_at bs done_at) room r (unfold head_called in (ending (venue_from (take venue_size bs)) (u32_at bs done_at) room (place_from bs 0))) done in
       let n = k.counted in
       let o = k.once in
-      let h : headCall (laneFrom bs) room ≡ r = head-called bs room some in
+      let h : head_call (lane_from bs) room ≡ r = head-called bs room some in
       lane-eq _ _
-      (ap venueFrom (moved-venue bs venue-after _ _ size kept) ∙ venue-held ∙ ap (λ (x : Call). x.returned.venue) (sym h))
-      (moved-done bs venue-after _ _ size kept (omega arith) ∙ ap (λ (x : ℕ). u32_at bs doneAt + x) (sym o ∙ ap (λ (x : Call). x.returned.done) (sym h)))
-      (moved-wait bs venue-after _ (u8_at bs countAt - 1) size kept (u8_at bs countAt) (omega arith) few (λ i j. waits-short bs i fine j))
+      (ap venue_from (moved-venue bs venue-after _ _ size kept) ∙ venue-held ∙ ap (λ (x : Call). x.returned.venue) (sym h))
+      (moved-done bs venue-after _ _ size kept (omega arith) ∙ ap (λ (x : ℕ). u32_at bs done_at + x) (sym o ∙ ap (λ (x : Call). x.returned.done) (sym h)))
+      (moved-wait bs venue-after _ (u8_at bs count_at - 1) size kept (u8_at bs count_at) (omega arith) few (λ i j. waits-short bs i fine j))
 
-  pub advanced-size : r.returned.done ≢ 0 → length (advancedBytes bs r.returned.number r.returned.venue) ≡ laneSize
-  unfolding advancedBytes movedBytes
+  pub advanced-size : r.returned.done ≢ 0 → length (advanced_bytes bs r.returned.number r.returned.venue) ≡ lane_size
+  unfolding advanced_bytes moved_bytes
   advanced-size done = moved-size bs venue-after _ _ size (venue-kept done)
 
-  pub advanced-canonical : r.returned.done ≢ 0 → CanonicalLane bs → CanonicalLane (advancedBytes bs r.returned.number r.returned.venue)
-  unfolding advancedBytes movedBytes
-  advanced-canonical done c = moved-canonical bs venue-after _ (u8_at bs countAt - 1) size (venue-kept done) c (omega arith)
+  pub advanced-canonical : r.returned.done ≢ 0 → CanonicalLane bs → CanonicalLane (advanced_bytes bs r.returned.number r.returned.venue)
+  unfolding advanced_bytes moved_bytes
+  advanced-canonical done c = moved-canonical bs venue-after _ (u8_at bs count_at - 1) size (venue-kept done) c (omega arith)

@@ -16,22 +16,22 @@ use Rattle.rules.proofs.Tests.{and_r}
 use Rattle.wire.proofs.Numbers.{u8-drop}
 use Rattle.places.specs.Layout.{upto}
 use Rattle.places.proofs.Tables.{upto-length, upto-at, upto-same}
-use Rattle.layer.specs.Layer.{waitSound}
-use Rattle.lanes.specs.Memory.{countAt, places_at, placeSize, messageFrom, placeFrom, laneFrom, placeBytes}
+use Rattle.layer.specs.Layer.{wait_sound}
+use Rattle.lanes.specs.Memory.{count_at, places_at, place_size, message_from, place_from, lane_from, place_bytes}
 use Rattle.lanes.proofs.Bytes.{part_length}
 use Rattle.lanes.proofs.Figures.{place-length}
 
 -- Read ----------------------------------------------------------------------------------------
 
 -- a message goes by its length and its bytes
-pub message-same : (x y : List ℕ) → u8_at y 0 ≤ 32 → ((i : ℕ) → i ≤ 32 → u8_at x i ≡ u8_at y i) → messageFrom x ≡ messageFrom y
-unfolding messageFrom
+pub message-same : (x y : List ℕ) → u8_at y 0 ≤ 32 → ((i : ℕ) → i ≤ 32 → u8_at x i ≡ u8_at y i) → message_from x ≡ message_from y
+unfolding message_from
 message-same x y h each =
     ap (upto (λ (i : ℕ). u8_at x (i + 1)) 0) (each 0 (omega arith))
     ∙ upto-same (λ (i : ℕ). u8_at x (i + 1)) (λ (i : ℕ). u8_at y (i + 1)) 0 (u8_at y 0) (λ i _ k. each (i + 1) (omega arith))
 
-pub message-read : (x m : List ℕ) → u8_at x 0 ≡ length m → ((i : ℕ) → i < length m → u8_at x (i + 1) ≡ get_or m i 0) → messageFrom x ≡ m
-unfolding messageFrom
+pub message-read : (x m : List ℕ) → u8_at x 0 ≡ length m → ((i : ℕ) → i < length m → u8_at x (i + 1) ≡ get_or m i 0) → message_from x ≡ m
+unfolding message_from
 message-read x m e each =
     let f : ℕ → ℕ = λ (i : ℕ). u8_at x (i + 1) in
     let n : length (upto f 0 (u8_at x 0)) ≡ length m = upto-length f 0 (u8_at x 0) ∙ e in
@@ -39,19 +39,19 @@ message-read x m e each =
     (λ i h. let z : 0 + i ≡ i = omega arith in upto-at f 0 0 (u8_at x 0) i (omega arith) ∙ ap f z ∙ each i (omega arith))
 
 -- a message that waits is no longer than 32 bytes
-pub waits-short : (bs : List ℕ) (i : ℕ) → waitSound (laneFrom bs).wait ≡ true → i < u8_at bs countAt → u8_at bs (placeSize * i + places_at) ≤ 32
-unfolding waitSound laneFrom
+pub waits-short : (bs : List ℕ) (i : ℕ) → wait_sound (lane_from bs).wait ≡ true → i < u8_at bs count_at → u8_at bs (place_size * i + places_at) ≤ 32
+unfolding wait_sound lane_from
 waits-short bs i s h =
-    let w : List (List ℕ) = upto (placeFrom bs) 0 (u8_at bs countAt) in
+    let w : List (List ℕ) = upto (place_from bs) 0 (u8_at bs count_at) in
     let z : 0 + i ≡ i = omega arith in
-    let g : get_or w i [] ≡ placeFrom bs i = upto-at (placeFrom bs) [] 0 (u8_at bs countAt) i h ∙ ap (placeFrom bs) z in
-    let t : leb (length (placeFrom bs i)) 32 ≡ true =
+    let g : get_or w i [] ≡ place_from bs i = upto-at (place_from bs) [] 0 (u8_at bs count_at) i h ∙ ap (place_from bs) z in
+    let t : leb (length (place_from bs i)) 32 ≡ true =
     ap (λ (x : List ℕ). leb (length x) 32) (sym g)
     ∙ all-at (λ (x : List ℕ). leb (length x) 32) [] w mathlib.Core.Path.refl (and_r (leb (length w) 8) (all (λ (x : List ℕ). leb (length x) 32) w) s) i in
-    omega (arith, leb-true (length (placeFrom bs i)) 32 t, place-length bs i)
+    omega (arith, leb-true (length (place_from bs i)) 32 t, place-length bs i)
 
 -- the message at the front of s, which stands after its length
-pub message-here : (s : List ℕ) (n : ℕ) → n ≡ u8_at s 0 → 1 + n ≤ length s → take n (drop 1 s) ≡ messageFrom s
+pub message-here : (s : List ℕ) (n : ℕ) → n ≡ u8_at s 0 → 1 + n ≤ length s → take n (drop 1 s) ≡ message_from s
 unfolding u8_at
 message-here s n e h =
     sym (message-read s (take n (drop 1 s)) (sym e ∙ sym size)
@@ -64,34 +64,34 @@ message-here s n e h =
     next i = omega arith
 
 -- the message at the head, as a call gets it
-pub head-lent : (bs : List ℕ) (n k : ℕ) → n ≡ u8_at bs places_at → places_at + 1 + n ≤ length bs → k ≡ n → take k (drop (places_at + 1) bs) ≡ placeFrom bs 0
-unfolding placeFrom
+pub head-lent : (bs : List ℕ) (n k : ℕ) → n ≡ u8_at bs places_at → places_at + 1 + n ≤ length bs → k ≡ n → take k (drop (places_at + 1) bs) ≡ place_from bs 0
+unfolding place_from
 head-lent bs n k e h f =
     ap (take k) (sym (drop-drop 1 places_at bs)) ∙ message-here (drop places_at bs) k (f ∙ e ∙ sym (u8-drop places_at bs 0)) (omega (arith, length-drop places_at bs))
 
 -- Written -------------------------------------------------------------------------------------
 
 module _ (m : List ℕ) (short : length m ≤ 32) where
-  pub place-size : length (placeBytes m) ≡ placeSize
-  unfolding placeBytes bytes
+  pub place-size : length (place_bytes m) ≡ place_size
+  unfolding place_bytes bytes
   place-size =
       length-append (u8 (length m) ++ m) (replicate (32 - length m) 0) ∙ omega (arith, length-append (u8 (length m)) m, length-replicate {A = ℕ} (32 - length m) 0)
 
-  pub place-first : get_or (placeBytes m) 0 0 ≡ length m
-  unfolding placeBytes bytes
+  pub place-first : get_or (place_bytes m) 0 0 ≡ length m
+  unfolding place_bytes bytes
   place-first = byte (length m) (omega arith)
 
-  pub place_byte : (i : ℕ) → i < length m → get_or (placeBytes m) (1 + i) 0 ≡ get_or m i 0
-  unfolding placeBytes bytes
+  pub place_byte : (i : ℕ) → i < length m → get_or (place_bytes m) (1 + i) 0 ≡ get_or m i 0
+  unfolding place_bytes bytes
   place_byte i h =
       get_or-append (u8 (length m) ++ m) (replicate (32 - length m) 0) 0 (1 + i) (omega (arith, length-append (u8 (length m)) m))
       ∙ get_or-append-add (u8 (length m)) m i 0
 
   -- and zeros after it
-  pub place_after : (k : ℕ) → length m < k → k ≤ 32 → get_or (placeBytes m) k 0 ≡ 0
-  unfolding placeBytes bytes
+  pub place_after : (k : ℕ) → length m < k → k ≤ 32 → get_or (place_bytes m) k 0 ≡ 0
+  unfolding place_bytes bytes
   place_after k h g =
       let n : length (u8 (length m) ++ m) ≡ 1 + length m = length-append (u8 (length m)) m in
       let e : k ≡ length (u8 (length m) ++ m) + (k - (1 + length m)) = omega arith in
-      ap (λ (i : ℕ). get_or (placeBytes m) i 0) e ∙ get_or-append-add (u8 (length m) ++ m) (replicate (32 - length m) 0) (k - (1 + length m)) 0
+      ap (λ (i : ℕ). get_or (place_bytes m) i 0) e ∙ get_or-append-add (u8 (length m) ++ m) (replicate (32 - length m) 0) (k - (1 + length m)) 0
       ∙ get_or-replicate (32 - length m) (k - (1 + length m)) 0 0 (omega arith)

@@ -2,7 +2,7 @@
 --
 --   of a lane, from
 --           0   the venue, as a host holds one (crate venue_bytes)
---   venueSize   its messages done u32
+--   venue_size   its messages done u32
 --         + 4   how many wait u8
 --         + 5   eight places of 33 bytes: a length u8 and 32 bytes; those in use come first, the head in front
 --
@@ -14,87 +14,87 @@ use Rattle.rules.specs.Bytes.{u8_at, u32_at, u8, u32}
 use Rattle.rules.specs.Calls.{Call, one}
 use Rattle.records.specs.Seen.{pasted}
 use Rattle.places.specs.Layout.{upto}
-use Rattle.venue_bytes.specs.Held.{venueSize, venueBytes, venueFrom, rows}
+use Rattle.venue_bytes.specs.Held.{venue_size, venue_bytes, venue_from, rows}
 use Rattle.layer.specs.Layer.{Lane, Layer}
 
-abbrev pub doneAt : ℕ
-doneAt = venueSize
+abbrev pub done_at : ℕ
+done_at = venue_size
 
-abbrev pub countAt : ℕ
-countAt = venueSize + 4
+abbrev pub count_at : ℕ
+count_at = venue_size + 4
 
 abbrev pub places_at : ℕ
-places_at = venueSize + 5
+places_at = venue_size + 5
 
-abbrev pub placeSize : ℕ
-placeSize = 33
+abbrev pub place_size : ℕ
+place_size = 33
 
-abbrev pub laneSize : ℕ
-laneSize = places_at + 8 * placeSize
+abbrev pub lane_size : ℕ
+lane_size = places_at + 8 * place_size
 
 abbrev pub last_at : ℕ
-last_at = 4 * laneSize
+last_at = 4 * lane_size
 
-abbrev pub layerSize : ℕ
-layerSize = last_at + 1
+abbrev pub layer_size : ℕ
+layer_size = last_at + 1
 
 -- Reading -------------------------------------------------------------------------------------
 
 -- the message at the front of bs, after its length; bytes that are not there are 0
-unfoldable pub messageFrom : List ℕ → List ℕ
-messageFrom bs = upto (λ (i : ℕ). u8_at bs (i + 1)) 0 (u8_at bs 0)
+unfoldable pub message_from : List ℕ → List ℕ
+message_from bs = upto (λ (i : ℕ). u8_at bs (i + 1)) 0 (u8_at bs 0)
 
 -- the message at place i of a lane's wait
-unfoldable pub placeFrom : List ℕ → ℕ → List ℕ
-placeFrom bs i = messageFrom (drop (placeSize * i + places_at) bs)
+unfoldable pub place_from : List ℕ → ℕ → List ℕ
+place_from bs i = message_from (drop (place_size * i + places_at) bs)
 
-unfoldable pub laneFrom : List ℕ → Lane
-laneFrom bs = record { venue = venueFrom (take venueSize bs); done = u32_at bs doneAt; wait = upto (placeFrom bs) 0 (u8_at bs countAt) }
+unfoldable pub lane_from : List ℕ → Lane
+lane_from bs = record { venue = venue_from (take venue_size bs); done = u32_at bs done_at; wait = upto (place_from bs) 0 (u8_at bs count_at) }
 
 -- the bytes of lane v
-unfoldable pub lanePart : List ℕ → (venue : ℕ) → List ℕ
-lanePart m v = take laneSize (drop (laneSize * v) m)
+unfoldable pub lane_part : List ℕ → (venue : ℕ) → List ℕ
+lane_part m v = take lane_size (drop (lane_size * v) m)
 
 unfoldable pub lane_of : List ℕ → (venue : ℕ) → Lane
-lane_of m v = laneFrom (lanePart m v)
+lane_of m v = lane_from (lane_part m v)
 
-unfoldable pub layerFrom : List ℕ → Layer
-layerFrom m = record { lanes = upto (lane_of m) 0 4; last = u8_at m last_at }
+unfoldable pub layer_from : List ℕ → Layer
+layer_from m = record { lanes = upto (lane_of m) 0 4; last = u8_at m last_at }
 
 -- Writing -------------------------------------------------------------------------------------
 
-unfoldable pub placeBytes : (message : List ℕ) → List ℕ
-placeBytes m = u8 (length m) ++ m ++ replicate (32 - length m) 0
+unfoldable pub place_bytes : (message : List ℕ) → List ℕ
+place_bytes m = u8 (length m) ++ m ++ replicate (32 - length m) 0
 
-unfoldable pub laneBytes : Lane → List ℕ
-laneBytes c =
-    venueBytes c.venue ++ u32 c.done ++ u8 (length c.wait) ++ rows placeBytes c.wait ++ replicate (placeSize * (8 - length c.wait)) 0
+unfoldable pub lane_bytes : Lane → List ℕ
+lane_bytes c =
+    venue_bytes c.venue ++ u32 c.done ++ u8 (length c.wait) ++ rows place_bytes c.wait ++ replicate (place_size * (8 - length c.wait)) 0
 
-unfoldable pub layerBytes : Layer → List ℕ
-layerBytes l = rows laneBytes l.lanes ++ u8 l.last
+unfoldable pub layer_bytes : Layer → List ℕ
+layer_bytes l = rows lane_bytes l.lanes ++ u8 l.last
 
 -- What a call writes --------------------------------------------------------------------------
 
 -- the layer with these bytes for lane v
-unfoldable pub withPart : List ℕ → (venue : ℕ) → List ℕ → List ℕ
-withPart m v bs = pasted m (laneSize * v) bs
+unfoldable pub with_part : List ℕ → (venue : ℕ) → List ℕ → List ℕ
+with_part m v bs = pasted m (lane_size * v) bs
 
 -- a lane with one more message: in the first free place, and counted
-unfoldable pub joinedBytes : (lane message : List ℕ) → List ℕ
-joinedBytes bs m = set (pasted bs (placeSize * u8_at bs countAt + places_at) (placeBytes m)) countAt (u8_at bs countAt + 1)
+unfoldable pub joined_bytes : (lane message : List ℕ) → List ℕ
+joined_bytes bs m = set (pasted bs (place_size * u8_at bs count_at + places_at) (place_bytes m)) count_at (u8_at bs count_at + 1)
 
 -- the one-message call with the message at the head of a lane's wait
-unfoldable pub headCalled : (lane : List ℕ) (room : ℕ) → Call
-headCalled bs room = one (venueFrom (take venueSize bs)) (u32_at bs doneAt) room (placeFrom bs 0)
+unfoldable pub head_called : (lane : List ℕ) (room : ℕ) → Call
+head_called bs room = one (venue_from (take venue_size bs)) (u32_at bs done_at) room (place_from bs 0)
 
 -- the venue's bytes after a call that ended with this number and venue: this venue's where the message was accepted, else as they were
-unfoldable pub venuePart : (lane : List ℕ) (number : ℕ) (venue : Venue) → List ℕ
-venuePart bs number v = if eqb number 0 then venueBytes v else take venueSize bs
+unfoldable pub venue_part : (lane : List ℕ) (number : ℕ) (venue : Venue) → List ℕ
+venue_part bs number v = if eqb number 0 then venue_bytes v else take venue_size bs
 
 -- a lane without the head of its wait, with these bytes for its venue: one more message done, one fewer waiting, each place one place down, the last place free
-unfoldable pub movedBytes : (lane venue : List ℕ) → List ℕ
-movedBytes bs venue = venue ++ u32 (u32_at bs doneAt + 1) ++ u8 (u8_at bs countAt - 1) ++ drop (places_at + placeSize) bs ++ replicate placeSize 0
+unfoldable pub moved_bytes : (lane venue : List ℕ) → List ℕ
+moved_bytes bs venue = venue ++ u32 (u32_at bs done_at + 1) ++ u8 (u8_at bs count_at - 1) ++ drop (places_at + place_size) bs ++ replicate place_size 0
 
 -- a lane whose head that call has done
-unfoldable pub advancedBytes : (lane : List ℕ) (number : ℕ) (venue : Venue) → List ℕ
-advancedBytes bs number v = movedBytes bs (venuePart bs number v)
+unfoldable pub advanced_bytes : (lane : List ℕ) (number : ℕ) (venue : Venue) → List ℕ
+advanced_bytes bs number v = moved_bytes bs (venue_part bs number v)

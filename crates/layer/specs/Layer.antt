@@ -2,7 +2,7 @@
 use Rattle.std.specs.Prelude.{Bool, not, ◌&&◌, ◌||◌, List, [], ◌∷◌, ◌++◌, ℕ, zero, suc, ◌+◌, ◌%◌, eqb, ltb, leb, length, get_or, set, drop, replicate}
 use Rattle.rules.specs.declared.Venue.{Venue}
 use Rattle.rules.specs.Base.{if◌then◌else◌, all}
-use Rattle.rules.specs.Words.{freshVenue}
+use Rattle.rules.specs.Words.{fresh_venue}
 use Rattle.rules.specs.Records.{sheet}
 use Rattle.rules.specs.Calls.{Call, one}
 
@@ -21,37 +21,37 @@ pub record Layer : Type 0 where
   pub lanes : List Lane
   pub last : ℕ
 
-unfoldable pub freshLane : Lane
-freshLane = record { venue = freshVenue; done = 0; wait = [] }
+unfoldable pub fresh_lane : Lane
+fresh_lane = record { venue = fresh_venue; done = 0; wait = [] }
 
 -- "the last one served (at first 3)"
-unfoldable pub freshLayer : Layer
-freshLayer = record { lanes = replicate 4 freshLane; last = 3 }
+unfoldable pub fresh_layer : Layer
+fresh_layer = record { lanes = replicate 4 fresh_lane; last = 3 }
 
-unfoldable pub laneAt : Layer → (venue : ℕ) → Lane
-laneAt l v = get_or l.lanes v freshLane
+unfoldable pub lane_at : Layer → (venue : ℕ) → Lane
+lane_at l v = get_or l.lanes v fresh_lane
 
-unfoldable pub withLane : Layer → (venue : ℕ) → Lane → Layer
-withLane l v c = record { lanes = set l.lanes v c; last = l.last }
+unfoldable pub with_lane : Layer → (venue : ℕ) → Lane → Layer
+with_lane l v c = record { lanes = set l.lanes v c; last = l.last }
 
 -- 9: "the layer given holds a figure out of range or a venue that gets 9" -------------------------
 
 -- a one-message call on it gets 9, whatever the message and the report memory: `GetsNine` of Promises. It is unsound, or the number of its next
 -- message is not above every kept edition's (d) and every generation's (m).
-unfoldable pub getsNine : Lane → Bool
-getsNine c = eqb (one c.venue c.done 0 []).returned.number 9
+unfoldable pub gets_nine : Lane → Bool
+gets_nine c = eqb (one c.venue c.done 0 []).returned.number 9
 
 -- "up to 8 waiting messages of at most 32 bytes for each"
 -- rule: (j)1
-unfoldable pub waitSound : List (List ℕ) → Bool
-waitSound w = leb (length w) 8 && all (λ (m : List ℕ). leb (length m) 32) w
+unfoldable pub wait_sound : List (List ℕ) → Bool
+wait_sound w = leb (length w) 8 && all (λ (m : List ℕ). leb (length m) 32) w
 
-unfoldable pub laneSound : Lane → Bool
-laneSound c = waitSound c.wait && not (getsNine c)
+unfoldable pub lane_sound : Lane → Bool
+lane_sound c = wait_sound c.wait && not (gets_nine c)
 
 -- rule: (j)6
-unfoldable pub layerSound : Layer → Bool
-layerSound l = leb l.last 3 && all laneSound l.lanes
+unfoldable pub layer_sound : Layer → Bool
+layer_sound l = leb l.last 3 && all lane_sound l.lanes
 
 -- A message arrives ---------------------------------------------------------------------------
 
@@ -61,11 +61,11 @@ pub record Arrived : Type 0 where
 
 -- "17, the wait holds 8 or the message is over 32 bytes; 18, venue number above 3, checked before it; 9 … checked first"
 -- rule: (j)6
-unfoldable pub refusalOf : Layer → (venue : ℕ) → (message : List ℕ) → ℕ
-refusalOf l v m =
-    if not (layerSound l) then 9
+unfoldable pub refusal_of : Layer → (venue : ℕ) → (message : List ℕ) → ℕ
+refusal_of l v m =
+    if not (layer_sound l) then 9
     else if ltb 3 v then 18
-    else if leb 8 (length (laneAt l v).wait) || ltb 32 (length m) then 17
+    else if leb 8 (length (lane_at l v).wait) || ltb 32 (length m) then 17
     else 0
 
 -- the message waits, behind those that came before it
@@ -76,8 +76,8 @@ joins m c = record { venue = c.venue; done = c.done; wait = c.wait ++ (m ∷ [])
 -- rule: (j)1
 unfoldable pub arrive : Layer → (venue : ℕ) → (message : List ℕ) → Arrived
 arrive l v m =
-    let x = refusalOf l v m in
-    record { number = x; layer = if eqb x 0 then withLane l v (joins m (laneAt l v)) else l }
+    let x = refusal_of l v m in
+    record { number = x; layer = if eqb x 0 then with_lane l v (joins m (lane_at l v)) else l }
 
 -- A turn --------------------------------------------------------------------------------------
 
@@ -95,22 +95,22 @@ waiting c = not (eqb (length c.wait) 0)
 
 -- of so many venues from one on, going round, the first that has a message waiting; 4 if none has
 -- rule: (j)2
-unfoldable pub firstWaiting : Layer → (tries from : ℕ) → ℕ
-firstWaiting l zero v = 4
-firstWaiting l (suc tries) v = if waiting (laneAt l v) then v else firstWaiting l tries ((v + 1) % 4)
+unfoldable pub first_waiting : Layer → (tries from : ℕ) → ℕ
+first_waiting l zero v = 4
+first_waiting l (suc tries) v = if waiting (lane_at l v) then v else first_waiting l tries ((v + 1) % 4)
 
 -- "the next venue after the last one served (at first 3), going round, that has a message waiting"
 -- rule: (j)2
 unfoldable pub next : Layer → ℕ
-next l = firstWaiting l 4 ((l.last + 1) % 4)
+next l = first_waiting l 4 ((l.last + 1) % 4)
 
 -- the message at the head of a wait
 unfoldable pub head : Lane → List ℕ
 head c = get_or c.wait 0 []
 
 -- the one-message call with it
-unfoldable pub headCall : Lane → (room : ℕ) → Call
-headCall c room = one c.venue c.done room (head c)
+unfoldable pub head_call : Lane → (room : ℕ) → Call
+head_call c room = one c.venue c.done room (head c)
 
 -- "ended by 9 or 10"
 -- rule: (j)3
@@ -132,7 +132,7 @@ serve l v r = record {
   done = r.returned.done;
   written = r.returned.written;
   served = v;
-  layer = record { lanes = set l.lanes v (advanced (laneAt l v) r); last = v };
+  layer = record { lanes = set l.lanes v (advanced (lane_at l v) r); last = v };
   report = r.report;
 }
 
@@ -140,8 +140,8 @@ serve l v r = record {
 unfoldable pub turn : Layer → (room : ℕ) → Turned
 turn l room =
     let v = next l in
-    let r = headCall (laneAt l v) room in
-    if not (layerSound l) then idle l room 9
+    let r = head_call (lane_at l v) room in
+    if not (layer_sound l) then idle l room 9
     else if eqb v 4 then idle l room 0
     else if ended r then idle l room r.returned.number
     else serve l v r
@@ -156,6 +156,6 @@ unfoldable pub after : Layer → Asked → Layer
 after l (arrival v m) = (arrive l v m).layer
 after l (turning room) = (turn l room).layer
 
-unfoldable pub afterAll : Layer → List Asked → Layer
-afterAll l [] = l
-afterAll l (a ∷ rest) = afterAll (after l a) rest
+unfoldable pub after_all : Layer → List Asked → Layer
+after_all l [] = l
+after_all l (a ∷ rest) = after_all (after l a) rest

@@ -1,13 +1,13 @@
 -- The claims are not empty: a list of calls with each answer of the layer, given by computation.
 use Rattle.std.specs.Prelude.{◌≡◌, List, [], ◌∷◌, map, ℕ, replicate}
 use Rattle.rules.specs.declared.Message.TheVariants.{Status, Sweep}
-use Rattle.rules.specs.Words.{freshVenue, withSeries}
-use Rattle.rules.specs.Settings.{percentage, enterEdition}
-use Rattle.rules.specs.Messages.{encodeMessage}
+use Rattle.rules.specs.Words.{fresh_venue, with_series}
+use Rattle.rules.specs.Settings.{percentage, enter_edition}
+use Rattle.rules.specs.Messages.{encode_message}
 use Rattle.rules.specs.Records.{answer}
 use Rattle.rules.specs.Generation.{counted}
-use Rattle.layer.specs.Layer.{Lane, Layer, Asked, arrival, turning, freshLane, freshLayer, arrive, turn, after, afterAll, laneAt}
-use Rattle.layer.specs.Promises.{toldBy}
+use Rattle.layer.specs.Layer.{Lane, Layer, Asked, arrival, turning, fresh_lane, fresh_layer, arrive, turn, after, after_all, lane_at}
+use Rattle.layer.specs.Promises.{told_by}
 
 -- the number of each call, and of each turn the venue that it served
 unfoldable pub numbers : Layer → List Asked → List ℕ
@@ -15,14 +15,14 @@ numbers l [] = []
 numbers l (arrival v m ∷ rest) = (arrive l v m).number ∷ numbers (after l (arrival v m)) rest
 numbers l (turning room ∷ rest) = (turn l room).number ∷ numbers (after l (turning room)) rest
 
-unfoldable pub servedBy : Layer → List Asked → List ℕ
-servedBy l [] = []
-servedBy l (arrival v m ∷ rest) = servedBy (after l (arrival v m)) rest
-servedBy l (turning room ∷ rest) = (turn l room).served ∷ servedBy (after l (turning room)) rest
+unfoldable pub served_by : Layer → List Asked → List ℕ
+served_by l [] = []
+served_by l (arrival v m ∷ rest) = served_by (after l (arrival v m)) rest
+served_by l (turning room ∷ rest) = (turn l room).served ∷ served_by (after l (turning room)) rest
 
 unfoldable pub session : List Asked
 session =
-    arrival 2 (encodeMessage Sweep) ∷ arrival 0 (encodeMessage (Status 0 1))
+    arrival 2 (encode_message Sweep) ∷ arrival 0 (encode_message (Status 0 1))
     -- any bytes may wait: a torn message, and none
     ∷ arrival 0 (9 ∷ 0 ∷ 6 ∷ []) ∷ arrival 3 []
     -- 18; 18 before 17; 17, over 32 bytes
@@ -40,35 +40,35 @@ eight = arrival 1 [] ∷ arrival 1 [] ∷ arrival 1 [] ∷ arrival 1 [] ∷ arri
 -- 9: the venue served last is 4; a message of 33 bytes waits, or a ninth message; a venue is unsound, or its next number not above that of an edition it keeps,
 -- or of a generation
 unfoldable pub beyond : Layer
-beyond = record { lanes = freshLayer.lanes; last = 4 }
+beyond = record { lanes = fresh_layer.lanes; last = 4 }
 
-unfoldable pub withThird : Lane → Layer
-withThird c = record { lanes = freshLane ∷ freshLane ∷ c ∷ freshLane ∷ []; last = 3 }
+unfoldable pub with_third : Lane → Layer
+with_third c = record { lanes = fresh_lane ∷ fresh_lane ∷ c ∷ fresh_lane ∷ []; last = 3 }
 
 unfoldable pub long : Layer
-long = withThird (record { venue = freshVenue; done = 0; wait = replicate 33 0 ∷ [] })
+long = with_third (record { venue = fresh_venue; done = 0; wait = replicate 33 0 ∷ [] })
 
 unfoldable pub crowded : Layer
-crowded = withThird (record { venue = freshVenue; done = 0; wait = replicate 9 [] })
+crowded = with_third (record { venue = fresh_venue; done = 0; wait = replicate 9 [] })
 
 unfoldable pub unsound : Layer
-unsound = withThird (record { venue = withSeries freshVenue (replicate 8 (record { status = 3; bid = 0; offer = 0 })); done = 0; wait = [] })
+unsound = with_third (record { venue = with_series fresh_venue (replicate 8 (record { status = 3; bid = 0; offer = 0 })); done = 0; wait = [] })
 
 -- an edition of message 5, so many messages done
 unfoldable pub dated : (done : ℕ) → Layer
-dated n = withThird (record { venue = enterEdition (record { edition = 1; message = 5; figure = percentage; value = 7 }) freshVenue; done = n; wait = [] })
+dated n = with_third (record { venue = enter_edition (record { edition = 1; message = 5; figure = percentage; value = 7 }) fresh_venue; done = n; wait = [] })
 
 -- a generation of message 5
 unfoldable pub busy : (done : ℕ) → Layer
-busy n = withThird (record { venue = counted 5 0 freshVenue; done = n; wait = [] })
+busy n = with_third (record { venue = counted 5 0 fresh_venue; done = n; wait = [] })
 
 pub record Witness : Type 0 where
-  pub numbered : numbers freshLayer session ≡ 0 ∷ 0 ∷ 0 ∷ 0 ∷ 18 ∷ 18 ∷ 17 ∷ 0 ∷ 0 ∷ 1 ∷ 10 ∷ 0 ∷ 1 ∷ 1 ∷ 0 ∷ []
-  pub served : servedBy freshLayer session ≡ 0 ∷ 1 ∷ 4 ∷ 2 ∷ 3 ∷ 0 ∷ 4 ∷ []
+  pub numbered : numbers fresh_layer session ≡ 0 ∷ 0 ∷ 0 ∷ 0 ∷ 18 ∷ 18 ∷ 17 ∷ 0 ∷ 0 ∷ 1 ∷ 10 ∷ 0 ∷ 1 ∷ 1 ∷ 0 ∷ []
+  pub served : served_by fresh_layer session ≡ 0 ∷ 1 ∷ 4 ∷ 2 ∷ 3 ∷ 0 ∷ 4 ∷ []
   -- venue 0 has records of its own messages alone, numbered from 1
-  pub told : toldBy 0 freshLayer session ≡ answer 1 0 0 0 ∷ answer 2 1 0 0 ∷ []
-  pub counts : (laneAt (afterAll freshLayer session) 0).done ≡ 2
-  pub full : numbers freshLayer eight ≡ 0 ∷ 0 ∷ 0 ∷ 0 ∷ 0 ∷ 0 ∷ 0 ∷ 0 ∷ 17 ∷ []
+  pub told : told_by 0 fresh_layer session ≡ answer 1 0 0 0 ∷ answer 2 1 0 0 ∷ []
+  pub counts : (lane_at (after_all fresh_layer session) 0).done ≡ 2
+  pub full : numbers fresh_layer eight ≡ 0 ∷ 0 ∷ 0 ∷ 0 ∷ 0 ∷ 0 ∷ 0 ∷ 0 ∷ 17 ∷ []
   -- 9 before 18, and of a turn with none waiting
   pub nine : map (λ l. numbers l (arrival 4 [] ∷ turning 100 ∷ [])) (beyond ∷ long ∷ crowded ∷ unsound ∷ dated 4 ∷ busy 4 ∷ []) ≡ replicate 6 (9 ∷ 9 ∷ [])
   pub follows : map (λ l. numbers l (arrival 4 [] ∷ turning 100 ∷ [])) (dated 5 ∷ busy 5 ∷ []) ≡ replicate 2 (18 ∷ 0 ∷ [])

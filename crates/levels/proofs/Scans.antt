@@ -8,10 +8,10 @@ use lib.ListN.{replicate}
 use Rattle.rules.specs.declared.Regular.{Regular}
 use Rattle.rules.specs.declared.Complex.{Complex}
 use Rattle.rules.specs.Base.{if◌then◌else◌}
-use Rattle.rules.specs.Words.{noRegular, noComplex, isComplexOf}
-use Rattle.rules.specs.Prices.{betterOf, shownSize, showsAt, showsFor, bestIn, sizeIn}
-use Rattle.rules.specs.Standing.{findComplex}
-use Rattle.places.specs.Layout.{upto, inUse}
+use Rattle.rules.specs.Words.{no_regular, no_complex, is_complex_of}
+use Rattle.rules.specs.Prices.{better_of, shown_size, shows_at, shows_for, best_in, size_in}
+use Rattle.rules.specs.Standing.{find_complex}
+use Rattle.places.specs.Layout.{upto, in_use}
 
 module _ {A : Type 0} (f : ℕ → A) where
   -- one place more in front, for a scan that counts down
@@ -38,61 +38,61 @@ module _ {A : Type 0} (f : ℕ → A) where
 
 -- Free places ---------------------------------------------------------------------------------
 
-best_none : (s d k : ℕ) → bestIn s d (replicate k noRegular) ≡ 0
-unfolding bestIn showsAt shownSize
+best_none : (s d k : ℕ) → best_in s d (replicate k no_regular) ≡ 0
+unfolding best_in shows_at shown_size
 best_none s d zero = refl
 best_none s d (suc k) = best_none s d k
 
-best-free : (s d : ℕ) (os : List Regular) (k : ℕ) → bestIn s d (os ++ replicate k noRegular) ≡ bestIn s d os
-unfolding bestIn
+best-free : (s d : ℕ) (os : List Regular) (k : ℕ) → best_in s d (os ++ replicate k no_regular) ≡ best_in s d os
+unfolding best_in
 best-free s d [] k = best_none s d k
-best-free s d (o ∷ os) k = ap (λ (x : ℕ). if showsAt s d o then betterOf d o.price x else x) (best-free s d os k)
+best-free s d (o ∷ os) k = ap (λ (x : ℕ). if shows_at s d o then better_of d o.price x else x) (best-free s d os k)
 
-size_none : (s d p k : ℕ) → sizeIn s d p (replicate k noRegular) ≡ 0
-unfolding sizeIn showsFor showsAt shownSize
+size_none : (s d p k : ℕ) → size_in s d p (replicate k no_regular) ≡ 0
+unfolding size_in shows_for shows_at shown_size
 size_none s d p zero = refl
 size_none s d p (suc k) = size_none s d p k
 
-size-free : (s d p : ℕ) (os : List Regular) (k : ℕ) → sizeIn s d p (os ++ replicate k noRegular) ≡ sizeIn s d p os
-unfolding sizeIn
+size-free : (s d p : ℕ) (os : List Regular) (k : ℕ) → size_in s d p (os ++ replicate k no_regular) ≡ size_in s d p os
+unfolding size_in
 size-free s d p [] k = size_none s d p k
-size-free s d p (o ∷ os) k = ap (λ (x : ℕ). if showsFor s d p o then shownSize o + x else x) (size-free s d p os k)
+size-free s d p (o ∷ os) k = ap (λ (x : ℕ). if shows_for s d p o then shown_size o + x else x) (size-free s d p os k)
 
-pub best-used : (f : ℕ → Regular) (s d n all : ℕ) → bestIn s d (inUse f noRegular n all) ≡ bestIn s d (upto f 0 n)
-unfolding inUse
+pub best-used : (f : ℕ → Regular) (s d n all : ℕ) → best_in s d (in_use f no_regular n all) ≡ best_in s d (upto f 0 n)
+unfolding in_use
 best-used f s d n all = best-free s d (upto f 0 n) (all - n)
 
-pub size-used : (f : ℕ → Regular) (s d p n all : ℕ) → sizeIn s d p (inUse f noRegular n all) ≡ sizeIn s d p (upto f 0 n)
-unfolding inUse
+pub size-used : (f : ℕ → Regular) (s d p n all : ℕ) → size_in s d p (in_use f no_regular n all) ≡ size_in s d p (upto f 0 n)
+unfolding in_use
 size-used f s d p n all = size-free s d p (upto f 0 n) (all - n)
 
 -- The complex order with an id ----------------------------------------------------------------
 
-find_none : (id k : ℕ) → findComplex id (replicate k noComplex) ≡ noComplex
-unfolding findComplex isComplexOf
+find_none : (id k : ℕ) → find_complex id (replicate k no_complex) ≡ no_complex
+unfolding find_complex is_complex_of
 find_none id zero = refl
 find_none id (suc k) = find_none id k
 
-find-free : (id : ℕ) (cs : List Complex) (k : ℕ) → findComplex id (cs ++ replicate k noComplex) ≡ findComplex id cs
-unfolding findComplex
+find-free : (id : ℕ) (cs : List Complex) (k : ℕ) → find_complex id (cs ++ replicate k no_complex) ≡ find_complex id cs
+unfolding find_complex
 find-free id [] k = find_none id k
-find-free id (c ∷ cs) k = ap (λ (x : Complex). if isComplexOf id c then c else x) (find-free id cs k)
+find-free id (c ∷ cs) k = ap (λ (x : Complex). if is_complex_of id c then c else x) (find-free id cs k)
 
-pub find-used : (f : ℕ → Complex) (id n all : ℕ) → findComplex id (upto f 0 n) ≡ findComplex id (inUse f noComplex n all)
-unfolding inUse
+pub find-used : (f : ℕ → Complex) (id n all : ℕ) → find_complex id (upto f 0 n) ≡ find_complex id (in_use f no_complex n all)
+unfolding in_use
 find-used f id n all = rw (find-free id (upto f 0 n) (all - n))
 
 module _ (id : ℕ) (f : ℕ → Complex) (i n : ℕ) where
-  find-on : i < n → findComplex id (upto f i (n - i)) ≡ (if isComplexOf id (f i) then f i else findComplex id (upto f (i + 1) (n - (i + 1))))
-  unfolding findComplex
-  find-on h = ap (findComplex id) (upto-on f i n h)
+  find-on : i < n → find_complex id (upto f i (n - i)) ≡ (if is_complex_of id (f i) then f i else find_complex id (upto f (i + 1) (n - (i + 1))))
+  unfolding find_complex
+  find-on h = ap (find_complex id) (upto-on f i n h)
 
-  pub find-here : i < n → isComplexOf id (f i) ≡ true → f i ≡ findComplex id (upto f i (n - i))
+  pub find-here : i < n → is_complex_of id (f i) ≡ true → f i ≡ find_complex id (upto f i (n - i))
   find-here h e = rw (find-on h, e)
 
-  pub find_past : i < n → isComplexOf id (f i) ≡ false → findComplex id (upto f (i + 1) (n - (i + 1))) ≡ findComplex id (upto f i (n - i))
+  pub find_past : i < n → is_complex_of id (f i) ≡ false → find_complex id (upto f (i + 1) (n - (i + 1))) ≡ find_complex id (upto f i (n - i))
   find_past h e = rw (find-on h, e)
 
-  pub find-end : n ≤ i → noComplex ≡ findComplex id (upto f i (n - i))
-  unfolding findComplex
+  pub find-end : n ≤ i → no_complex ≡ find_complex id (upto f i (n - i))
+  unfolding find_complex
   find-end h = rw (upto-end f i n h)

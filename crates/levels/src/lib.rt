@@ -1,11 +1,11 @@
 // The levels of the regular orders, a price and a size for each side of a series: how the numbers keep them, and how they are read; and which price is reached.
 ghost use Rattle.std.specs.Prelude.{◌≡◌, suc, ◌≤◌, length};
-ghost use Rattle.rules.specs.Prices.{better, reaches, bestRegular};
-ghost use Rattle.rules.specs.Trading.{fillRegular, putRegular};
-ghost use Rattle.rules.specs.Generation.{reachesAny};
-ghost use Rattle.rules.specs.Standing.{showAgain};
-ghost use Rattle.places.specs.Layout.{size, regularsUsed, complexesUsed, venueOf, levelOf, Counts, SameCounts};
-ghost use Rattle.levels.specs.Grid.{noLevel, withOrder, levelBy, GridOf, LevelsPut, TakenOf, SidesOf};
+ghost use Rattle.rules.specs.Prices.{better, reaches, best_regular};
+ghost use Rattle.rules.specs.Trading.{fill_regular, put_regular};
+ghost use Rattle.rules.specs.Generation.{reaches_any};
+ghost use Rattle.rules.specs.Standing.{show_again};
+ghost use Rattle.places.specs.Layout.{size, regulars_used, complexes_used, venue_of, level_of, Counts, SameCounts};
+ghost use Rattle.levels.specs.Grid.{no_level, with_order, level_by, GridOf, LevelsPut, TakenOf, SidesOf};
 ghost use Rattle.levels.specs.Requirements.{LegsReady, LegSideReady};
 ghost use Rattle.places.specs.Requirements.{RightNumbers, RegularReady, SideReady, RightSide, RightOrder};
 
@@ -14,7 +14,7 @@ use rules::{Complex, Regular};
 
 // A price p of this side reaches q, and q is a price (not 0).
 pub fn reaches_any(side: u8, p: u32, q: u32) -> bool
-    ensures { result ≡ reachesAny side p q }
+    ensures { result ≡ reaches_any side p q }
 {
     if q == 0 {
         return false;
@@ -27,7 +27,7 @@ pub fn reaches_any(side: u8, p: u32, q: u32) -> bool
 // The level l of the side of order o, with what o shows added.
 fn with_order(l: Level, o: Regular) -> Level
     requires { l.size ≤ 549755813760 }
-    ensures { result ≡ withOrder o l }
+    ensures { result ≡ with_order o l }
 {
     let shown = arithmetic::shown_size(o);
     if shown == 0 {
@@ -52,7 +52,7 @@ fn with_order(l: Level, o: Regular) -> Level
 // The level of one series and side, in one pass over the places in use.
 fn level_of(numbers: &[u32], s: u8, d: u8) -> Level
     requires { SideReady numbers.now s d }
-    ensures { result ≡ levelOf s d (venueOf numbers.now).regular }
+    ensures { result ≡ level_of s d (venue_of numbers.now).regular }
 {
     let key = arithmetic::place_of(s, d);
     let mut l = Level { price: 0, size: 0 };
@@ -71,7 +71,7 @@ fn level_of(numbers: &[u32], s: u8, d: u8) -> Level
 // Sets every level to none.
 fn zero_levels(numbers: &mut [u32])
     requires { length numbers.old ≡ size }
-    ensures { LevelsPut (λ _. noLevel) numbers.old numbers.new }
+    ensures { LevelsPut (λ _. no_level) numbers.old numbers.new }
 {
     let none = Level { price: 0, size: 0 };
     let mut n: usize = 0;
@@ -84,7 +84,7 @@ fn zero_levels(numbers: &mut [u32])
 // Makes the levels of all series and sides, in one pass over the places in use.
 pub fn make_levels(numbers: &mut [u32])
     requires { length numbers.old ≡ size }
-    ensures { LevelsPut (levelBy (venueOf numbers.old).regular) numbers.old numbers.new }
+    ensures { LevelsPut (level_by (venue_of numbers.old).regular) numbers.old numbers.new }
 {
     zero_levels(numbers);
     let mut i = places::regulars_used(numbers);
@@ -100,8 +100,8 @@ pub fn make_levels(numbers: &mut [u32])
 // Puts an order into the place after those in use, and into its level.
 pub fn add_order(numbers: &mut [u32], o: Regular)
     requires { RightOrder numbers.old o }
-    ensures numbers_after { venueOf numbers.new ≡ putRegular (regularsUsed numbers.old) o (venueOf numbers.old) }
-    ensures counts { Counts (suc (regularsUsed numbers.old)) (complexesUsed numbers.old) numbers.old numbers.new }
+    ensures numbers_after { venue_of numbers.new ≡ put_regular (regulars_used numbers.old) o (venue_of numbers.old) }
+    ensures counts { Counts (suc (regulars_used numbers.old)) (complexes_used numbers.old) numbers.old numbers.new }
 {
     let n = arithmetic::place_of(o.series, o.side);
     let l = places::level_at(numbers, n);
@@ -112,7 +112,7 @@ pub fn add_order(numbers: &mut [u32], o: Regular)
 // Fills the order at place i for k contracts, first from what it shows, and changes its level.
 pub fn fill_order(numbers: &mut [u32], i: usize, k: u32)
     requires { RegularReady numbers.old i }
-    ensures numbers_after { venueOf numbers.new ≡ fillRegular i k (venueOf numbers.old) }
+    ensures numbers_after { venue_of numbers.new ≡ fill_regular i k (venue_of numbers.old) }
     ensures counts { SameCounts numbers.old numbers.new }
 {
     let o = places::regular_at(numbers, i);
@@ -139,7 +139,7 @@ pub fn fill_order(numbers: &mut [u32], i: usize, k: u32)
 // Each order shows again. Where the show-again flag is 0, each order already shows what it should.
 pub fn show_again(numbers: &mut [u32])
     requires { RightNumbers numbers.old }
-    ensures numbers_after { venueOf numbers.new ≡ showAgain (venueOf numbers.old) }
+    ensures numbers_after { venue_of numbers.new ≡ show_again (venue_of numbers.old) }
     ensures counts { SameCounts numbers.old numbers.new }
 {
     if places::none_shows_again(numbers) {
@@ -154,7 +154,7 @@ pub fn show_again(numbers: &mut [u32])
 // The best regular price of a series and side.
 pub fn best_regular(numbers: &[u32], s: u8, d: u8) -> u32
     requires { RightSide numbers.now s d }
-    ensures { result ≡ bestRegular (venueOf numbers.now) s d }
+    ensures { result ≡ best_regular (venue_of numbers.now) s d }
 {
     let l = places::level_at(numbers, arithmetic::place_of(s, d));
     l.price
@@ -163,7 +163,7 @@ pub fn best_regular(numbers: &[u32], s: u8, d: u8) -> u32
 // The levels of all series and sides, as a grid.
 pub fn levels(numbers: &[u32]) -> [[Level; 2]; 8]
     requires { RightNumbers numbers.now }
-    ensures { GridOf result (venueOf numbers.now).regular }
+    ensures { GridOf result (venue_of numbers.now).regular }
 {
     let none = Level { price: 0, size: 0 };
     let mut g = [[none; 2]; 8];
@@ -196,7 +196,7 @@ pub struct LegSides {
 // The levels that the legs of c take.
 pub fn taken_at(numbers: &[u32], c: Complex) -> TakenLevels
     requires { LegsReady numbers.now c }
-    ensures { TakenOf result c (venueOf numbers.now).regular }
+    ensures { TakenOf result c (venue_of numbers.now).regular }
 {
     let first = places::level_at(
         numbers,
@@ -212,7 +212,7 @@ pub fn taken_at(numbers: &[u32], c: Complex) -> TakenLevels
 // What the test of the leg of c at side d of series s reads of the regular orders.
 pub fn sides_at(numbers: &[u32], c: Complex, s: u8, d: u8) -> LegSides
     requires { LegSideReady numbers.now c s d }
-    ensures { SidesOf result c s d (venueOf numbers.now).regular }
+    ensures { SidesOf result c s d (venue_of numbers.now).regular }
 {
     let own = best_regular(numbers, s, d);
     let facing = best_regular(numbers, s, arithmetic::opposite_of(d));

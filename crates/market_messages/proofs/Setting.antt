@@ -7,38 +7,38 @@ use lib.ListN.{set}
 use borrow.Author.Tests.{leb-true}
 use Rattle.rules.specs.declared.Listed.{Listed}
 use Rattle.rules.specs.declared.Venue.{Venue}
-use Rattle.rules.specs.Words.{within, isSeries, isStatus, isAway, statusOf, listed_at, withSeries}
-use Rattle.rules.specs.Settings.{isIncrement}
-use Rattle.rules.specs.Step.{setAway, setStatus}
+use Rattle.rules.specs.Words.{within, is_series, is_status, is_away, status_of, listed_at, with_series}
+use Rattle.rules.specs.Settings.{is_increment}
+use Rattle.rules.specs.Step.{set_away, set_status}
 use Rattle.rules.proofs.Tests.{and_l, and_r}
 
 module _ (v w : Venue) (s : ℕ) where
-  pub away-set : (x bid offer : ℕ) → x ≡ statusOf v s → w ≡ withSeries v (set v.series s (record { status = x; bid = bid; offer = offer })) → w ≡ setAway s bid offer v
-  unfolding setAway
-  away-set x bid offer e p = p ∙ ap (λ (k : ℕ). withSeries v (set v.series s (record { status = k; bid = bid; offer = offer }))) e
+  pub away-set : (x bid offer : ℕ) → x ≡ status_of v s → w ≡ with_series v (set v.series s (record { status = x; bid = bid; offer = offer })) → w ≡ set_away s bid offer v
+  unfolding set_away
+  away-set x bid offer e p = p ∙ ap (λ (k : ℕ). with_series v (set v.series s (record { status = k; bid = bid; offer = offer }))) e
 
   pub status-set : (x : ℕ) (old : Listed) → old ≡ listed_at v s →
-      w ≡ withSeries v (set v.series s (record { status = x; bid = old.bid; offer = old.offer })) → w ≡ setStatus s x v
-  unfolding setStatus
-  status-set x old e p = p ∙ ap (λ (y : Listed). withSeries v (set v.series s (record { status = x; bid = y.bid; offer = y.offer }))) e
+      w ≡ with_series v (set v.series s (record { status = x; bid = old.bid; offer = old.offer })) → w ≡ set_status s x v
+  unfolding set_status
+  status-set x old e p = p ∙ ap (λ (y : Listed). with_series v (set v.series s (record { status = x; bid = y.bid; offer = y.offer }))) e
 
 -- Fields in range -----------------------------------------------------------------------------
 
-pub away-series : (s bid offer : ℕ) → (isSeries s && isAway bid && isAway offer) ≡ true → s < 8
-unfolding isSeries within
+pub away-series : (s bid offer : ℕ) → (is_series s && is_away bid && is_away offer) ≡ true → s < 8
+unfolding is_series within
 away-series s bid offer z = let a = leb-true s 7 (search (and_l, and_r, z) depth 8) in omega arith
 
-pub status-series : (s x : ℕ) → (isSeries s && isStatus x) ≡ true → s < 8
-unfolding isSeries within
+pub status-series : (s x : ℕ) → (is_series s && is_status x) ≡ true → s < 8
+unfolding is_series within
 status-series s x z = let a = leb-true s 7 (search (and_l, and_r, z) depth 8) in omega arith
 
 -- an increment is some number of cents
-pub increment-set : (s x : ℕ) → (isSeries s && isIncrement x) ≡ true → (s < 8) × (0 < x)
-unfolding isSeries within
+pub increment-set : (s x : ℕ) → (is_series s && is_increment x) ≡ true → (s < 8) × (0 < x)
+unfolding is_series within
 increment-set s x z =
     let a = leb-true s 7 (search (and_l, and_r, z) depth 8) in
     (omega arith, some x (search (and_l, and_r, z) depth 8))
   where
-    some : (x : ℕ) → isIncrement x ≡ true → 0 < x
-    some zero h = absurd (true≢false (sym (unfold isIncrement in h)))
+    some : (x : ℕ) → is_increment x ≡ true → 0 < x
+    some zero h = absurd (true≢false (sym (unfold is_increment in h)))
     some (suc x) h = omega arith

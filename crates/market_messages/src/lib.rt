@@ -1,14 +1,14 @@
 // Away prices, a status, a setting and a sweep: the ranges of the message's fields, its refusals, and what it does.
 ghost use Rattle.std.specs.Prelude.{◌≡◌, false, ◌&&◌};
 ghost use Rattle.rules.specs.declared.Message.TheVariants.{Away, Status, Sweep, Increment, Percent, LimitedSweep};
-ghost use Rattle.rules.specs.Words.{within, isSeries, isStatus, isAway};
-ghost use Rattle.rules.specs.Settings.{isIncrement, isPercent, isEdition};
-ghost use Rattle.rules.specs.Step.{setAway, setStatus, setFigure};
+ghost use Rattle.rules.specs.Words.{within, is_series, is_status, is_away};
+ghost use Rattle.rules.specs.Settings.{is_increment, is_percent, is_edition};
+ghost use Rattle.rules.specs.Step.{set_away, set_status, set_figure};
 ghost use Rattle.rules.specs.Standing.{settle};
 ghost use Rattle.records.specs.Seen.{seen};
 ghost use Rattle.records.specs.Stage.{stage, ◌does◌};
-ghost use Rattle.places.specs.Layout.{venueOf, SameCounts};
-ghost use Rattle.answers.specs.Steps.{answeredBy, rangedBy, Steps};
+ghost use Rattle.places.specs.Layout.{venue_of, SameCounts};
+ghost use Rattle.answers.specs.Steps.{answered_by, ranged_by, Steps};
 ghost use Rattle.answers.specs.Requirements.{SoundNumbers};
 ghost use Rattle.places.specs.Requirements.{RightFigure};
 ghost use Rattle.market_messages.specs.Requirements.{StandingSeries};
@@ -21,7 +21,7 @@ use rules::{Edition, Listed};
 // A series gets its away prices; then settling tests the legging orders whose test reads something of that series.
 fn set_away(numbers: &mut [u32], s: u8, bid: u32, offer: u32, out: &mut [u8], at: usize) -> usize
     requires { StandingSeries numbers.old s }
-    ensures result_after { stage (venueOf numbers.new) out.new result ≡ seen out.old at does settle (setAway s bid offer (venueOf numbers.old)) }
+    ensures result_after { stage (venue_of numbers.new) out.new result ≡ seen out.old at does settle (set_away s bid offer (venue_of numbers.old)) }
     ensures counts { SameCounts numbers.old numbers.new }
 {
     let status = prices::status_of(numbers, s);
@@ -33,7 +33,7 @@ fn set_away(numbers: &mut [u32], s: u8, bid: u32, offer: u32, out: &mut [u8], at
 // A series gets its status; then settling tests the legging orders whose test reads something of that series.
 fn set_status(numbers: &mut [u32], s: u8, status: u8, out: &mut [u8], at: usize) -> usize
     requires { StandingSeries numbers.old s }
-    ensures result_after { stage (venueOf numbers.new) out.new result ≡ seen out.old at does settle (setStatus s status (venueOf numbers.old)) }
+    ensures result_after { stage (venue_of numbers.new) out.new result ≡ seen out.old at does settle (set_status s status (venue_of numbers.old)) }
     ensures counts { SameCounts numbers.old numbers.new }
 {
     let old = places::listed_at(numbers, s as usize);
@@ -57,7 +57,7 @@ fn set_figure(
     at: usize,
 ) -> usize
     requires { RightFigure numbers.old f x }
-    ensures result_after { stage (venueOf numbers.new) out.new result ≡ seen out.old at does settle (setFigure number f x edition (venueOf numbers.old)) }
+    ensures result_after { stage (venue_of numbers.new) out.new result ≡ seen out.old at does settle (set_figure number f x edition (venue_of numbers.old)) }
     ensures counts { SameCounts numbers.old numbers.new }
 {
     let i = places::free_edition(numbers);
@@ -83,7 +83,7 @@ pub fn away_step(
     out: &mut [u8],
 ) -> Stepped
     requires { SoundNumbers numbers.old }
-    ensures { Steps (rangedBy (venueOf numbers.old) number (isSeries s && isAway bid && isAway offer) false (Away s bid offer)) out.old result numbers.new out.new }
+    ensures { Steps (ranged_by (venue_of numbers.old) number (is_series s && is_away bid && is_away offer) false (Away s bid offer)) out.old result numbers.new out.new }
 {
     if !wire::away_in_range(s, bid, offer) {
         return answers::refuse(numbers, number, 4, out);
@@ -96,7 +96,7 @@ pub fn away_step(
 // 5: a status.
 pub fn status_step(numbers: &mut [u32], number: u32, s: u8, status: u8, out: &mut [u8]) -> Stepped
     requires { SoundNumbers numbers.old }
-    ensures { Steps (rangedBy (venueOf numbers.old) number (isSeries s && isStatus status) false (Status s status)) out.old result numbers.new out.new }
+    ensures { Steps (ranged_by (venue_of numbers.old) number (is_series s && is_status status) false (Status s status)) out.old result numbers.new out.new }
 {
     if !wire::status_in_range(s, status) {
         return answers::refuse(numbers, number, 4, out);
@@ -109,7 +109,7 @@ pub fn status_step(numbers: &mut [u32], number: u32, s: u8, status: u8, out: &mu
 // 6: a sweep.
 pub fn sweep_step(numbers: &mut [u32], number: u32, out: &mut [u8]) -> Stepped
     requires { SoundNumbers numbers.old }
-    ensures { Steps (answeredBy (venueOf numbers.old) number Sweep) out.old result numbers.new out.new }
+    ensures { Steps (answered_by (venue_of numbers.old) number Sweep) out.old result numbers.new out.new }
 {
     let at = records::emit_answer(out, 0, number, 0, 0, 0);
     let end = sweeps::sweep(numbers, number, out, at);
@@ -126,7 +126,7 @@ pub fn increment_step(
     out: &mut [u8],
 ) -> Stepped
     requires { SoundNumbers numbers.old }
-    ensures { Steps (rangedBy (venueOf numbers.old) number (isSeries s && isIncrement x && isEdition edition) false (Increment s x edition)) out.old result numbers.new out.new }
+    ensures { Steps (ranged_by (venue_of numbers.old) number (is_series s && is_increment x && is_edition edition) false (Increment s x edition)) out.old result numbers.new out.new }
 {
     if !wire::increment_in_range(s, x) {
         return answers::refuse(numbers, number, 4, out);
@@ -150,7 +150,7 @@ pub fn percent_step(
     out: &mut [u8],
 ) -> Stepped
     requires { SoundNumbers numbers.old }
-    ensures { Steps (rangedBy (venueOf numbers.old) number (isPercent x && isEdition edition) false (Percent x edition)) out.old result numbers.new out.new }
+    ensures { Steps (ranged_by (venue_of numbers.old) number (is_percent x && is_edition edition) false (Percent x edition)) out.old result numbers.new out.new }
 {
     if 50 < x {
         return answers::refuse(numbers, number, 4, out);
@@ -167,7 +167,7 @@ pub fn percent_step(
 // 11: a limited sweep.
 pub fn limited_step(numbers: &mut [u32], number: u32, n: u8, out: &mut [u8]) -> Stepped
     requires { SoundNumbers numbers.old }
-    ensures { Steps (rangedBy (venueOf numbers.old) number (within 1 32 n) false (LimitedSweep n)) out.old result numbers.new out.new }
+    ensures { Steps (ranged_by (venue_of numbers.old) number (within 1 32 n) false (LimitedSweep n)) out.old result numbers.new out.new }
 {
     if !wire::sweep_in_range(n) {
         return answers::refuse(numbers, number, 4, out);

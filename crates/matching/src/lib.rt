@@ -1,13 +1,13 @@
 // An entering order: which orders it meets, turn by turn.
 // A contract says in one equation: the venue left and all that is written are those of the definition.
 ghost use Rattle.std.specs.Prelude.{◌≡◌, suc};
-ghost use Rattle.rules.specs.Words.{opposite, leggingAt};
+ghost use Rattle.rules.specs.Words.{opposite, legging_at};
 ghost use Rattle.rules.specs.Effects.{repeat};
-ghost use Rattle.rules.specs.Prices.{ownPrice};
-ghost use Rattle.rules.specs.Order.{at_once, leggingFirst, meetTurn, enterRegular};
+ghost use Rattle.rules.specs.Prices.{own_price};
+ghost use Rattle.rules.specs.Order.{at_once, legging_first, meet_turn, enter_regular};
 ghost use Rattle.records.specs.Seen.{seen};
 ghost use Rattle.records.specs.Stage.{stage, ◌does◌};
-ghost use Rattle.places.specs.Layout.{regularsUsed, complexesUsed, venueOf, Counts, SameCounts};
+ghost use Rattle.places.specs.Layout.{regulars_used, complexes_used, venue_of, Counts, SameCounts};
 ghost use Rattle.matching.specs.Turns.{turn_of, InUse};
 ghost use Rattle.places.specs.Requirements.{SeriesReady, RightRegular, DenseOrder};
 
@@ -25,7 +25,7 @@ pub enum Plan {
 
 // A legging order's price; 0 where its place is free.
 fn own_price(l: Legging) -> u32
-    ensures { result ≡ ownPrice l }
+    ensures { result ≡ own_price l }
 {
     if l.quantity == 0 {
         return 0;
@@ -35,7 +35,7 @@ fn own_price(l: Legging) -> u32
 
 // The order o meets the legging order l before a regular order at price p (0: none).
 fn legging_first(o: Regular, l: Legging, p: u32) -> bool
-    ensures { result ≡ leggingFirst o l p }
+    ensures { result ≡ legging_first o l p }
 {
     let own = own_price(l);
     if own == 0 {
@@ -50,7 +50,7 @@ fn legging_first(o: Regular, l: Legging, p: u32) -> bool
 // The legging order that an order of this side in a series faces.
 fn facing(numbers: &[u32], series: u8, side: u8) -> Legging
     requires { SeriesReady numbers.now series }
-    ensures { result ≡ leggingAt (venueOf numbers.now) series (opposite side) }
+    ensures { result ≡ legging_at (venue_of numbers.now) series (opposite side) }
 {
     let n = arithmetic::place_of(series, arithmetic::opposite_of(side));
     places::legging_at(numbers, n)
@@ -70,7 +70,7 @@ fn at_once(m: Regular) -> u32
 // What the order at place i does next.
 fn decide(numbers: &[u32], i: usize) -> Plan
     requires { RightRegular numbers.now i }
-    ensures { (turn_of i (venueOf numbers.now) result ≡ meetTurn i (venueOf numbers.now)) × InUse (regularsUsed numbers.now) result }
+    ensures { (turn_of i (venue_of numbers.now) result ≡ meet_turn i (venue_of numbers.now)) × InUse (regulars_used numbers.now) result }
 {
     let o = places::regular_at(numbers, i);
     if o.quantity == 0 {
@@ -97,7 +97,7 @@ fn decide(numbers: &[u32], i: usize) -> Plan
 // The order at place i meets the other side, in at most `quantity` turns.
 pub fn meet_all(numbers: &mut [u32], i: usize, quantity: u32, out: &mut [u8], at: usize) -> usize
     requires { RightRegular numbers.old i }
-    ensures result_after { stage (venueOf numbers.new) out.new result ≡ seen out.old at does repeat quantity (meetTurn i) (venueOf numbers.old) }
+    ensures result_after { stage (venue_of numbers.new) out.new result ≡ seen out.old at does repeat quantity (meet_turn i) (venue_of numbers.old) }
     ensures counts { SameCounts numbers.old numbers.new }
 {
     let mut pos = at;
@@ -125,8 +125,8 @@ pub fn meet_all(numbers: &mut [u32], i: usize, quantity: u32, out: &mut [u8], at
 // Puts the order into a place, where it meets the other side. Every place in use is held, so the place after them is the first free one.
 pub fn enter_regular(numbers: &mut [u32], o: Regular, out: &mut [u8], at: usize) -> usize
     requires { DenseOrder numbers.old o }
-    ensures result_after { stage (venueOf numbers.new) out.new result ≡ seen out.old at does enterRegular o (venueOf numbers.old) }
-    ensures counts { Counts (suc (regularsUsed numbers.old)) (complexesUsed numbers.old) numbers.old numbers.new }
+    ensures result_after { stage (venue_of numbers.new) out.new result ≡ seen out.old at does enter_regular o (venue_of numbers.old) }
+    ensures counts { Counts (suc (regulars_used numbers.old)) (complexes_used numbers.old) numbers.old numbers.new }
 {
     let i = places::regulars_used(numbers);
     levels::add_order(numbers, o);

@@ -7,14 +7,14 @@ use native.Mathlib.Numerals.{add-one}
 use lib.ListN.{length, get_or, set, drop_of_length-le}
 use lib.Seq.{paste, paste-suc, take_all}
 use Rattle.rules.specs.declared.Venue.{Venue}
-use Rattle.rules.specs.Records.{Report, encodeAll}
+use Rattle.rules.specs.Records.{Report, encode_all}
 use Rattle.rules.specs.Step.{StepOutcome, step}
 use Rattle.demands.specs.Soundness.{SoundVenue}
 use Rattle.demands.proofs.Most.{writes-at-most}
 use Rattle.records.specs.Seen.{Seen, seen}
 use Rattle.records.proofs.StageLaws.{stage-venue, stage-written}
 use Rattle.records.proofs.SeenLaws.{writes-in}
-use Rattle.places.specs.Layout.{venueOf, Dense}
+use Rattle.places.specs.Layout.{venue_of, Dense}
 use Rattle.answers.specs.declared.Stepped.{Stepped}
 use Rattle.answers.specs.Steps.{Steps}
 use Rattle.messages.specs.Tries.{Tries}
@@ -38,8 +38,8 @@ module _ (a : StepOutcome) (b₀ l : List ℕ) (r : Stepped) (b o : List ℕ) (s
   tries-done h =
       record {
         refused = s.refused;
-        written = stage-written (venueOf b) o l r.written 0 a.effect s.staged;
-        done = λ _. stage-venue (venueOf b) o l r.written 0 a.effect s.staged;
+        written = stage-written (venue_of b) o l r.written 0 a.effect s.staged;
+        done = λ _. stage-venue (venue_of b) o l r.written 0 a.effect s.staged;
         left = λ k. absurd (omega arith);
         dense = s.dense;
       }
@@ -48,9 +48,9 @@ module _ (a : StepOutcome) (b₀ l : List ℕ) (r : Stepped) (b o : List ℕ) (s
   tries_left b' h e d =
       record {
         refused = s.refused;
-        written = stage-written (venueOf b) o l r.written 0 a.effect s.staged;
+        written = stage-written (venue_of b) o l r.written 0 a.effect s.staged;
         done = λ k. absurd (omega arith);
-        left = λ _. ap venueOf e;
+        left = λ _. ap venue_of e;
         dense = rw e d;
       }
 
@@ -61,6 +61,6 @@ unfolding seen
 tries-roomy v number m b₀ l r b o s h g =
     let most = writes-at-most v s number m in
     let rs : List Report = (step v number m).effect.reports in
-    let e = stage-written (venueOf b) o l r.written 0 (step v number m).effect g.staged in
-    let k : r.written ≡ 0 + length (encodeAll rs) = ap (λ (w : Seen). w.at) (e ∙ writes-in l 0 rs (omega arith)) in
+    let e = stage-written (venue_of b) o l r.written 0 (step v number m).effect g.staged in
+    let k : r.written ≡ 0 + length (encode_all rs) = ap (λ (w : Seen). w.at) (e ∙ writes-in l 0 rs (omega arith)) in
     tries-done (step v number m) b₀ l r b o g (omega arith)

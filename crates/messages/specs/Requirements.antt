@@ -1,7 +1,7 @@
 -- What the functions require, each part by its name.
 use Rattle.std.specs.Prelude.{◌≡◌, List, ℕ, ◌<◌, ◌≤◌, length}
-use Rattle.places.specs.Layout.{size, Dense, venueOf}
-use Rattle.rules.specs.Bytes.{u16At}
+use Rattle.places.specs.Layout.{size, Dense, venue_of}
+use Rattle.rules.specs.Bytes.{u16_at}
 use Rattle.messages.specs.Frames.{Framed}
 use Rattle.demands.specs.Soundness.{SoundVenue}
 
@@ -9,18 +9,18 @@ use Rattle.demands.specs.Soundness.{SoundVenue}
 pub record FirstKind (b m : List ℕ) (k : ℕ) : Type 0 where
   pub whole : length b ≡ size
   pub dense : Dense b
-  pub sound : SoundVenue (venueOf b)
+  pub sound : SoundVenue (venue_of b)
   pub framed : Framed m
-  pub kind : k ≡ u16At m 2
+  pub kind : k ≡ u16_at m 2
   pub most : k ≤ 3
 
 -- numbers of a sound venue, and a message of a kind from 4 to 6
 pub record MarketKind (b m : List ℕ) (k : ℕ) : Type 0 where
   pub whole : length b ≡ size
   pub dense : Dense b
-  pub sound : SoundVenue (venueOf b)
+  pub sound : SoundVenue (venue_of b)
   pub framed : Framed m
-  pub kind : k ≡ u16At m 2
+  pub kind : k ≡ u16_at m 2
   pub least : 3 < k
   pub most : k ≤ 6
 
@@ -28,7 +28,7 @@ pub record MarketKind (b m : List ℕ) (k : ℕ) : Type 0 where
 pub record LaterKind (b m : List ℕ) (k : ℕ) : Type 0 where
   pub whole : length b ≡ size
   pub dense : Dense b
-  pub sound : SoundVenue (venueOf b)
+  pub sound : SoundVenue (venue_of b)
   pub framed : Framed m
-  pub kind : k ≡ u16At m 2
+  pub kind : k ≡ u16_at m 2
   pub least : 6 < k

@@ -1,7 +1,7 @@
 // One message on the venue in its slice, from the message's bytes: refused or accepted, with its answer.
 ghost use Rattle.std.specs.Prelude.{◌≡◌, length};
 ghost use Rattle.rules.specs.Step as step;
-ghost use Rattle.places.specs.Layout.{venueOf};
+ghost use Rattle.places.specs.Layout.{venue_of};
 ghost use Rattle.answers.specs.Steps.{Steps};
 ghost use Rattle.messages.specs.Frames.{FrameRefusal};
 ghost use Rattle.messages.specs.Tries.{Tries};
@@ -48,7 +48,7 @@ fn first_kinds(
     out: &mut [u8],
 ) -> Stepped
     requires { FirstKind numbers.old message.now kind }
-    ensures { Steps (step.step (venueOf numbers.old) number message.now) out.old result numbers.new out.new }
+    ensures { Steps (step.step (venue_of numbers.old) number message.now) out.old result numbers.new out.new }
 {
     if kind <= 1 {
         let o = wire::order_at(message, wire::word_at(message, 14));
@@ -71,7 +71,7 @@ fn market_kinds(
     out: &mut [u8],
 ) -> Stepped
     requires { MarketKind numbers.old message.now kind }
-    ensures { Steps (step.step (venueOf numbers.old) number message.now) out.old result numbers.new out.new }
+    ensures { Steps (step.step (venue_of numbers.old) number message.now) out.old result numbers.new out.new }
 {
     if kind <= 4 {
         let s = wire::byte_at(message, 4);
@@ -96,7 +96,7 @@ fn later_kinds(
     out: &mut [u8],
 ) -> Stepped
     requires { LaterKind numbers.old message.now kind }
-    ensures { Steps (step.step (venueOf numbers.old) number message.now) out.old result numbers.new out.new }
+    ensures { Steps (step.step (venue_of numbers.old) number message.now) out.old result numbers.new out.new }
 {
     if kind <= 7 {
         let s = wire::byte_at(message, 4);
@@ -128,7 +128,7 @@ fn later_kinds(
 // Does the message at the front of `message`, of this number, by its kind: writes its answer and its records from the start of `out` on.
 pub fn step(numbers: &mut [u32], number: u32, message: &[u8], out: &mut [u8]) -> Stepped
     requires { SoundNumbers numbers.old }
-    ensures { Steps (step.step (venueOf numbers.old) number message.now) out.old result numbers.new out.new }
+    ensures { Steps (step.step (venue_of numbers.old) number message.now) out.old result numbers.new out.new }
 {
     let refused = frame_refusal(message);
     if refused != 0 {
@@ -161,7 +161,7 @@ fn copy(from: &[u32], to: &mut [u32])
 // A step whose records may not fit: where they do not, the function restores the numbers.
 fn step_or_leave(numbers: &mut [u32], number: u32, message: &[u8], out: &mut [u8]) -> Stepped
     requires { SoundNumbers numbers.old }
-    ensures { Tries (step.step (venueOf numbers.old) number message.now) numbers.old out.old result numbers.new out.new }
+    ensures { Tries (step.step (venue_of numbers.old) number message.now) numbers.old out.old result numbers.new out.new }
 {
     let mut kept = [0u32; places::SIZE];
     copy(numbers, &mut kept);
@@ -176,7 +176,7 @@ fn step_or_leave(numbers: &mut [u32], number: u32, message: &[u8], out: &mut [u8
 // The same. With room for 10,433 bytes, the most that a message on a sound venue writes, the function keeps no copy of the numbers.
 pub fn try_step(numbers: &mut [u32], number: u32, message: &[u8], out: &mut [u8]) -> Stepped
     requires { SoundNumbers numbers.old }
-    ensures { Tries (step.step (venueOf numbers.old) number message.now) numbers.old out.old result numbers.new out.new }
+    ensures { Tries (step.step (venue_of numbers.old) number message.now) numbers.old out.old result numbers.new out.new }
 {
     if out.len() < 10433 {
         return step_or_leave(numbers, number, message, out);

@@ -7,15 +7,15 @@ use native.Mathlib.Omega.{arith}
 use lib.ListN.{length, get_or, take, drop, replicate}
 use lib.Seq.{drop-drop, take_at}
 use borrow.Rule.Slice.PartMut.{put_mid}
-use Rattle.rules.specs.Words.{noRegular, noComplex, notListed, noEdition}
-use Rattle.rules.specs.Bytes.{bytes, asUnsigned}
+use Rattle.rules.specs.Words.{no_regular, no_complex, not_listed, no_edition}
+use Rattle.rules.specs.Bytes.{bytes, as_unsigned}
 use Rattle.records.specs.Seen.{pasted}
 use Rattle.records.proofs.SeenLaws.{pasted-pasted}
-use Rattle.places.specs.Layout.{upto, inUse, complexIn, listedIn, editionIn, complexesUsed, venueOf}
+use Rattle.places.specs.Layout.{upto, in_use, complex_in, listed_in, edition_in, complexes_used, venue_of}
 use Rattle.places.proofs.Tables.{upto-length, upto-at, used-length}
 use Rattle.places.proofs.Parts.{regulars-many, complexes-few, leggings-length}
 use Rattle.places.proofs.Generations.{generations-many}
-use Rattle.venue_bytes.specs.Held.{rows, regularBytes, complexBytes, reserveBytes, ratioBytes, Sized}
+use Rattle.venue_bytes.specs.Held.{rows, regular_bytes, complex_bytes, reserve_bytes, ratio_bytes, Sized}
 use Rattle.venue_bytes.proofs.Rows.{Written, rows_append, rows-length}
 
 -- a part put back
@@ -26,19 +26,19 @@ part-back l ys a k e =
 
 -- The venue's tables ---------------------------------------------------------------------------
 
-pub complexes-many : (b : List ℕ) → length (venueOf b).complex ≡ 32
-unfolding venueOf
-complexes-many b = used-length (complexIn b) noComplex (complexesUsed b) 32 (complexes-few b)
+pub complexes-many : (b : List ℕ) → length (venue_of b).complex ≡ 32
+unfolding venue_of
+complexes-many b = used-length (complex_in b) no_complex (complexes_used b) 32 (complexes-few b)
 
-pub series-many : (b : List ℕ) → length (venueOf b).series ≡ 8
-unfolding venueOf
-series-many b = upto-length (listedIn b) 0 8
+pub series-many : (b : List ℕ) → length (venue_of b).series ≡ 8
+unfolding venue_of
+series-many b = upto-length (listed_in b) 0 8
 
-pub editions-many : (b : List ℕ) → length (venueOf b).editions ≡ 32
-unfolding venueOf
-editions-many b = upto-length (editionIn b) 0 32
+pub editions-many : (b : List ℕ) → length (venue_of b).editions ≡ 32
+unfolding venue_of
+editions-many b = upto-length (edition_in b) 0 32
 
-pub venue-sized : (b : List ℕ) → Sized (venueOf b)
+pub venue-sized : (b : List ℕ) → Sized (venue_of b)
 venue-sized b = record {
   regular = regulars-many b;
   complex = complexes-many b;
@@ -48,13 +48,13 @@ venue-sized b = record {
   generations = generations-many b;
 }
 
-pub series-at : (b : List ℕ) (i : ℕ) → i < 8 → listedIn b i ≡ get_or (venueOf b).series i notListed
-unfolding venueOf
-series-at b i h = sym (upto-at (listedIn b) notListed 0 8 i h ∙ ap (listedIn b) (omega arith))
+pub series-at : (b : List ℕ) (i : ℕ) → i < 8 → listed_in b i ≡ get_or (venue_of b).series i not_listed
+unfolding venue_of
+series-at b i h = sym (upto-at (listed_in b) not_listed 0 8 i h ∙ ap (listed_in b) (omega arith))
 
-pub edition-at : (b : List ℕ) (i : ℕ) → i < 32 → editionIn b i ≡ get_or (venueOf b).editions i noEdition
-unfolding venueOf
-edition-at b i h = sym (upto-at (editionIn b) noEdition 0 32 i h ∙ ap (editionIn b) (omega arith))
+pub edition-at : (b : List ℕ) (i : ℕ) → i < 32 → edition_in b i ≡ get_or (venue_of b).editions i no_edition
+unfolding venue_of
+edition-at b i h = sym (upto-at (edition_in b) no_edition 0 32 i h ∙ ap (edition_in b) (omega arith))
 
 -- Free places -----------------------------------------------------------------------------------
 
@@ -73,9 +73,9 @@ module _ {A : Type 0} (row : A → List ℕ) (width : ℕ) (none : A) (blank : r
 
   module _ (even : (x : A) → length (row x) ≡ width) (f : ℕ → A) (used all : ℕ) (few : used ≤ all) where
     -- the places in use are written, and zeros after them: the whole table is
-    pub used-written : (from at : ℕ) (out₀ out o : List ℕ) (i k : ℕ) → width * all + from ≤ length out₀ → i ≡ used → Written row from (inUse f none used all) out₀ out i →
-        at ≡ width * used + from → k ≡ width * (all - used) → o ≡ pasted out at (replicate k 0) → o ≡ pasted out₀ from (rows row (inUse f none used all))
-    unfolding inUse
+    pub used-written : (from at : ℕ) (out₀ out o : List ℕ) (i k : ℕ) → width * all + from ≤ length out₀ → i ≡ used → Written row from (in_use f none used all) out₀ out i →
+        at ≡ width * used + from → k ≡ width * (all - used) → o ≡ pasted out at (replicate k 0) → o ≡ pasted out₀ from (rows row (in_use f none used all))
+    unfolding in_use
     used-written from at out₀ out o i k fits e w p q r =
         let l : List A = upto f 0 used in
         let n : length (rows row l) ≡ width * used = rows-length row width even l ∙ ap (λ (j : ℕ). width * j) (upto-length f 0 used) in
@@ -89,18 +89,18 @@ module _ {A : Type 0} (row : A → List ℕ) (width : ℕ) (none : A) (blank : r
         ∙ ap (λ (y : List ℕ). pasted out₀ from (rows row l ++ y)) (sym (rows-free (all - used)))
         ∙ ap (pasted out₀ from) (sym (rows_append row l (replicate (all - used) none)))
 
-pub regular-blank : regularBytes noRegular ≡ replicate 14 0
-unfolding regularBytes bytes
+pub regular-blank : regular_bytes no_regular ≡ replicate 14 0
+unfolding regular_bytes bytes
 regular-blank = refl
 
-pub reserve-blank : reserveBytes noRegular ≡ replicate 8 0
-unfolding reserveBytes bytes
+pub reserve-blank : reserve_bytes no_regular ≡ replicate 8 0
+unfolding reserve_bytes bytes
 reserve-blank = refl
 
-pub complex-blank : complexBytes noComplex ≡ replicate 17 0
-unfolding complexBytes bytes asUnsigned
+pub complex-blank : complex_bytes no_complex ≡ replicate 17 0
+unfolding complex_bytes bytes as_unsigned
 complex-blank = refl
 
-pub ratio-blank : ratioBytes noComplex ≡ replicate 2 0
-unfolding ratioBytes bytes
+pub ratio-blank : ratio_bytes no_complex ≡ replicate 2 0
+unfolding ratio_bytes bytes
 ratio-blank = refl

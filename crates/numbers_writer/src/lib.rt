@@ -1,10 +1,10 @@
 // Writes the venue that the numbers of a slice stand for (places' specs/Layout.antt) as bytes (venue_bytes' specs/Held.antt).
 ghost use Rattle.std.specs.Prelude.{◌≡◌, ◌-◌, get_or, replicate};
-ghost use Rattle.rules.specs.Words.{noGenerations};
+ghost use Rattle.rules.specs.Words.{no_generations};
 ghost use Rattle.records.specs.Seen.{seen, pasted, ◌plus◌};
-ghost use Rattle.places.specs.Layout.{venueOf};
-ghost use Rattle.venue_bytes.specs.Held.{editionsAt, reservesAt, ratiosAt, generationsAt};
-ghost use Rattle.venue_bytes.specs.Held.{regularBytes, complexBytes, leggingBytes, listedBytes, editionBytes, reserveBytes, ratioBytes, generationsBytes, rows, venueBytes};
+ghost use Rattle.places.specs.Layout.{venue_of};
+ghost use Rattle.venue_bytes.specs.Held.{editions_at, reserves_at, ratios_at, generations_at};
+ghost use Rattle.venue_bytes.specs.Held.{regular_bytes, complex_bytes, legging_bytes, listed_bytes, edition_bytes, reserve_bytes, ratio_bytes, generations_bytes, rows, venue_bytes};
 ghost use Rattle.venue_bytes.specs.Requirements.{HeldReady};
 ghost use Rattle.numbers_writer.specs.Requirements.{ClearReady, GenerationsRoom};
 
@@ -21,7 +21,7 @@ fn clear(out: &mut [u8], from: usize, to: usize)
 // The regular orders' rows.
 fn put_regulars(out: &mut [u8], numbers: &[u32])
     requires { HeldReady out.old numbers.now }
-    ensures { out.new ≡ pasted out.old 0 (rows regularBytes (venueOf numbers.now).regular) }
+    ensures { out.new ≡ pasted out.old 0 (rows regular_bytes (venue_of numbers.now).regular) }
 {
     let n = places::regulars_used(numbers);
     let mut i: usize = 0;
@@ -36,7 +36,7 @@ fn put_regulars(out: &mut [u8], numbers: &[u32])
 // The rows of the regular orders' reserves.
 fn put_reserves(out: &mut [u8], numbers: &[u32])
     requires { HeldReady out.old numbers.now }
-    ensures { out.new ≡ pasted out.old reservesAt (rows reserveBytes (venueOf numbers.now).regular) }
+    ensures { out.new ≡ pasted out.old reserves_at (rows reserve_bytes (venue_of numbers.now).regular) }
 {
     let n = places::regulars_used(numbers);
     let mut i: usize = 0;
@@ -55,7 +55,7 @@ fn put_reserves(out: &mut [u8], numbers: &[u32])
 // The complex orders' rows.
 fn put_complexes(out: &mut [u8], numbers: &[u32])
     requires { HeldReady out.old numbers.now }
-    ensures { out.new ≡ pasted out.old 1792 (rows complexBytes (venueOf numbers.now).complex) }
+    ensures { out.new ≡ pasted out.old 1792 (rows complex_bytes (venue_of numbers.now).complex) }
 {
     let n = places::complexes_used(numbers);
     let mut i: usize = 0;
@@ -70,7 +70,7 @@ fn put_complexes(out: &mut [u8], numbers: &[u32])
 // The rows of the complex orders' ratios.
 fn put_ratios(out: &mut [u8], numbers: &[u32])
     requires { HeldReady out.old numbers.now }
-    ensures { out.new ≡ pasted out.old ratiosAt (rows ratioBytes (venueOf numbers.now).complex) }
+    ensures { out.new ≡ pasted out.old ratios_at (rows ratio_bytes (venue_of numbers.now).complex) }
 {
     let n = places::complexes_used(numbers);
     let mut i: usize = 0;
@@ -91,7 +91,7 @@ fn put_ratios(out: &mut [u8], numbers: &[u32])
 // The legging orders' rows.
 fn put_leggings(out: &mut [u8], numbers: &[u32])
     requires { HeldReady out.old numbers.now }
-    ensures { out.new ≡ pasted out.old 2336 (rows leggingBytes (venueOf numbers.now).legging) }
+    ensures { out.new ≡ pasted out.old 2336 (rows legging_bytes (venue_of numbers.now).legging) }
 {
     let mut i: usize = 0;
     while i < 16 {
@@ -104,7 +104,7 @@ fn put_leggings(out: &mut [u8], numbers: &[u32])
 // The series' rows.
 fn put_series(out: &mut [u8], numbers: &[u32])
     requires { HeldReady out.old numbers.now }
-    ensures { out.new ≡ pasted out.old 2528 (rows listedBytes (venueOf numbers.now).series) }
+    ensures { out.new ≡ pasted out.old 2528 (rows listed_bytes (venue_of numbers.now).series) }
 {
     let mut i: usize = 0;
     while i < 8 {
@@ -117,7 +117,7 @@ fn put_series(out: &mut [u8], numbers: &[u32])
 // The editions' rows.
 fn put_editions(out: &mut [u8], numbers: &[u32])
     requires { HeldReady out.old numbers.now }
-    ensures { out.new ≡ pasted out.old editionsAt (rows editionBytes (venueOf numbers.now).editions) }
+    ensures { out.new ≡ pasted out.old editions_at (rows edition_bytes (venue_of numbers.now).editions) }
 {
     let mut i: usize = 0;
     while i < 32 {
@@ -130,7 +130,7 @@ fn put_editions(out: &mut [u8], numbers: &[u32])
 // The row of a series' generations.
 fn put_generations(out: &mut [u8], at: usize, numbers: &[u32], s: usize)
     requires { GenerationsRoom out.old numbers.now at s }
-    ensures { out.new ≡ (seen out.old at plus generationsBytes (get_or (venueOf numbers.now).generations s noGenerations)).memory }
+    ensures { out.new ≡ (seen out.old at plus generations_bytes (get_or (venue_of numbers.now).generations s no_generations)).memory }
 {
     let mut k: usize = 0;
     while k < 20 {
@@ -143,7 +143,7 @@ fn put_generations(out: &mut [u8], at: usize, numbers: &[u32], s: usize)
 // The rows of the series' generations.
 fn put_all_generations(out: &mut [u8], numbers: &[u32])
     requires { HeldReady out.old numbers.now }
-    ensures { out.new ≡ pasted out.old generationsAt (rows generationsBytes (venueOf numbers.now).generations) }
+    ensures { out.new ≡ pasted out.old generations_at (rows generations_bytes (venue_of numbers.now).generations) }
 {
     let mut i: usize = 0;
     while i < 8 {
@@ -155,7 +155,7 @@ fn put_all_generations(out: &mut [u8], numbers: &[u32])
 // Writes the bytes of the venue that the numbers stand for over what was there.
 pub fn put_numbers(out: &mut [u8], numbers: &[u32])
     requires { HeldReady out.old numbers.now }
-    ensures { out.new ≡ venueBytes (venueOf numbers.now) }
+    ensures { out.new ≡ venue_bytes (venue_of numbers.now) }
 {
     put_regulars(out, numbers);
     put_complexes(out, numbers);

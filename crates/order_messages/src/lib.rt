@@ -1,14 +1,14 @@
 // An order, a complex order and a cancel: the ranges of the message's fields, its refusals, and what it does.
 ghost use Rattle.std.specs.Prelude.{◌≡◌, false, eqb};
 ghost use Rattle.rules.specs.declared.Message.TheVariants.{Order, TwoLeg, Cancel};
-ghost use Rattle.rules.specs.Words.{with_last, isId};
+ghost use Rattle.rules.specs.Words.{with_last, is_id};
 ghost use Rattle.rules.specs.Order.{order};
 ghost use Rattle.rules.specs.Complex.{complex};
-ghost use Rattle.rules.specs.Refusals.{regularInRange, twoLegInRange};
+ghost use Rattle.rules.specs.Refusals.{regular_in_range, two_leg_in_range};
 ghost use Rattle.records.specs.Seen.{seen};
 ghost use Rattle.records.specs.Stage.{stage, ◌does◌};
-ghost use Rattle.places.specs.Layout.{venueOf, Right};
-ghost use Rattle.answers.specs.Steps.{answeredBy, rangedBy, Steps};
+ghost use Rattle.places.specs.Layout.{venue_of, Right};
+ghost use Rattle.answers.specs.Steps.{answered_by, ranged_by, Steps};
 ghost use Rattle.answers.specs.Requirements.{SoundNumbers, SoundOrder, SoundComplex, SoundPair};
 ghost use Rattle.orders.specs.Requirements.{StandingComplex};
 ghost use Rattle.order_messages.specs.Requirements.{EnteringOrder};
@@ -21,7 +21,7 @@ use rules::{Complex, Regular};
 // An order arrives, and its id becomes the last accepted.
 fn enter_order(numbers: &mut [u32], o: Regular, out: &mut [u8], at: usize) -> usize
     requires { EnteringOrder numbers.old o }
-    ensures result_after { stage (venueOf numbers.new) out.new result ≡ seen out.old at does order o (with_last (venueOf numbers.old) o.id) }
+    ensures result_after { stage (venue_of numbers.new) out.new result ≡ seen out.old at does order o (with_last (venue_of numbers.old) o.id) }
     ensures right { Right numbers.new }
 {
     place_writes::put_last(numbers, o.id);
@@ -31,7 +31,7 @@ fn enter_order(numbers: &mut [u32], o: Regular, out: &mut [u8], at: usize) -> us
 // A complex order arrives by the message of this number, and its id becomes the last accepted.
 fn enter_complex(numbers: &mut [u32], number: u32, c: Complex, out: &mut [u8], at: usize) -> usize
     requires { StandingComplex numbers.old c }
-    ensures result_after { stage (venueOf numbers.new) out.new result ≡ seen out.old at does complex number c (with_last (venueOf numbers.old) c.id) }
+    ensures result_after { stage (venue_of numbers.new) out.new result ≡ seen out.old at does complex number c (with_last (venue_of numbers.old) c.id) }
     ensures right { Right numbers.new }
 {
     place_writes::put_last(numbers, c.id);
@@ -43,7 +43,7 @@ fn enter_complex(numbers: &mut [u32], number: u32, c: Complex, out: &mut [u8], a
 // 1 and 9: an order.
 pub fn order_step(numbers: &mut [u32], number: u32, o: Regular, out: &mut [u8]) -> Stepped
     requires { SoundOrder numbers.old o }
-    ensures { Steps (rangedBy (venueOf numbers.old) number (regularInRange o) false (Order o)) out.old result numbers.new out.new }
+    ensures { Steps (ranged_by (venue_of numbers.old) number (regular_in_range o) false (Order o)) out.old result numbers.new out.new }
 {
     if !wire::regular_in_range(o) {
         return answers::refuse(numbers, number, 4, out);
@@ -60,7 +60,7 @@ pub fn order_step(numbers: &mut [u32], number: u32, o: Regular, out: &mut [u8]) 
 // A complex order whose fields are in range.
 fn complex_step(numbers: &mut [u32], number: u32, c: Complex, out: &mut [u8]) -> Stepped
     requires { SoundComplex numbers.old c }
-    ensures { Steps (answeredBy (venueOf numbers.old) number (TwoLeg c)) out.old result numbers.new out.new }
+    ensures { Steps (answered_by (venue_of numbers.old) number (TwoLeg c)) out.old result numbers.new out.new }
 {
     let refused = refusals::complex_refusal(numbers, c);
     if refused != 0 {
@@ -74,7 +74,7 @@ fn complex_step(numbers: &mut [u32], number: u32, c: Complex, out: &mut [u8]) ->
 // 2: a complex order whose ratios are 1.
 pub fn pair_step(numbers: &mut [u32], number: u32, c: Complex, out: &mut [u8]) -> Stepped
     requires { SoundPair numbers.old c }
-    ensures { Steps (rangedBy (venueOf numbers.old) number (twoLegInRange 200000 c) false (TwoLeg c)) out.old result numbers.new out.new }
+    ensures { Steps (ranged_by (venue_of numbers.old) number (two_leg_in_range 200000 c) false (TwoLeg c)) out.old result numbers.new out.new }
 {
     if !wire::two_leg_in_range(200000, c) {
         return answers::refuse(numbers, number, 4, out);
@@ -85,7 +85,7 @@ pub fn pair_step(numbers: &mut [u32], number: u32, c: Complex, out: &mut [u8]) -
 // 10: a complex order with its ratios. Equal ratios are refused with 14.
 pub fn ratio_step(numbers: &mut [u32], number: u32, c: Complex, out: &mut [u8]) -> Stepped
     requires { SoundNumbers numbers.old }
-    ensures { Steps (rangedBy (venueOf numbers.old) number (twoLegInRange 600000 c) (eqb c.ratio1 c.ratio2) (TwoLeg c)) out.old result numbers.new out.new }
+    ensures { Steps (ranged_by (venue_of numbers.old) number (two_leg_in_range 600000 c) (eqb c.ratio1 c.ratio2) (TwoLeg c)) out.old result numbers.new out.new }
 {
     if !wire::two_leg_in_range(600000, c) {
         return answers::refuse(numbers, number, 4, out);
@@ -99,7 +99,7 @@ pub fn ratio_step(numbers: &mut [u32], number: u32, c: Complex, out: &mut [u8]) 
 // 3: a cancel.
 pub fn cancel_step(numbers: &mut [u32], number: u32, id: u32, out: &mut [u8]) -> Stepped
     requires { SoundNumbers numbers.old }
-    ensures { Steps (rangedBy (venueOf numbers.old) number (isId id) false (Cancel id)) out.old result numbers.new out.new }
+    ensures { Steps (ranged_by (venue_of numbers.old) number (is_id id) false (Cancel id)) out.old result numbers.new out.new }
 {
     if id == 0 {
         return answers::refuse(numbers, number, 4, out);

@@ -8,14 +8,14 @@ use native.Mathlib.Decide.{dec_lt}
 use lib.ListN.{get_or}
 use Rattle.rules.specs.declared.Venue.{Venue}
 use Rattle.rules.specs.Base.{if◌then◌else◌}
-use Rattle.rules.specs.Words.{noRegular, noComplex, regularAt, complexAt, isRegularOf, isComplexOf}
+use Rattle.rules.specs.Words.{no_regular, no_complex, regular_at, complex_at, is_regular_of, is_complex_of}
 use Rattle.rules.specs.Effects.{◌⟫◌}
 use Rattle.rules.specs.Standing.{settle}
-use Rattle.rules.specs.Complex.{cancelRegular, cancelComplex, cancel, regularPlace, complexPlace, restsRegular, restsComplex}
-use Rattle.places.specs.Layout.{inUse, regularsUsed, complexesUsed, regularIn, complexIn, venueOf}
+use Rattle.rules.specs.Complex.{cancel_regular, cancel_complex, cancel, regular_place, complex_place, rests_regular, rests_complex}
+use Rattle.places.specs.Layout.{in_use, regulars_used, complexes_used, regular_in, complex_in, venue_of}
 use Rattle.places.proofs.Tables.{used-free}
 use Rattle.book.specs.declared.Found.TheVariants.{At, Nothing}
-use Rattle.book.specs.Picks.{regularFound, complexFound}
+use Rattle.book.specs.Picks.{regular_found, complex_found}
 use Rattle.book.proofs.FirstPlace.{regular-free, complex-free}
 
 -- what is found, and what is not
@@ -28,7 +28,7 @@ found-not true p e = let z : ◌≡◌ {A = ℕ} 0 1 = cc in absurd (omega arith
 found-not false p e = refl
 
 -- what passes a test that no free place passes stands at a place in use
-passes-used : {A : Type 0} (f : A → Bool) (none : A) (g : ℕ → A) (n all i : ℕ) → f none ≡ false → f (get_or (inUse g none n all) i none) ≡ true → i < n
+passes-used : {A : Type 0} (f : A → Bool) (none : A) (g : ℕ → A) (n all i : ℕ) → f none ≡ false → f (get_or (in_use g none n all) i none) ≡ true → i < n
 passes-used f none g n all i off e =
     elim (dec_lt i n) [
       | yes h ↦ h
@@ -36,42 +36,42 @@ passes-used f none g n all i off e =
     ]
 
 module _ (b : List ℕ) (id : ℕ) where
-  pub regular-found : (i : ℕ) → At i ≡ regularFound (venueOf b) id → (restsRegular (venueOf b) id ≡ true) × (regularPlace (venueOf b) id ≡ i)
-  unfolding regularFound
-  regular-found i e = found_at (restsRegular (venueOf b) id) (regularPlace (venueOf b) id) i e
+  pub regular-found : (i : ℕ) → At i ≡ regular_found (venue_of b) id → (rests_regular (venue_of b) id ≡ true) × (regular_place (venue_of b) id ≡ i)
+  unfolding regular_found
+  regular-found i e = found_at (rests_regular (venue_of b) id) (regular_place (venue_of b) id) i e
 
-  pub regular-used : (i : ℕ) → At i ≡ regularFound (venueOf b) id → i < regularsUsed b
-  unfolding restsRegular regularAt venueOf
+  pub regular-used : (i : ℕ) → At i ≡ regular_found (venue_of b) id → i < regulars_used b
+  unfolding rests_regular regular_at venue_of
   regular-used i e =
       let r = regular-found i e in
-      passes-used (isRegularOf id) noRegular (regularIn b) (regularsUsed b) 128 i (regular-free id)
-      (ap (λ (k : ℕ). isRegularOf id (get_or (venueOf b).regular k noRegular)) (sym r.1) ∙ r.0)
+      passes-used (is_regular_of id) no_regular (regular_in b) (regulars_used b) 128 i (regular-free id)
+      (ap (λ (k : ℕ). is_regular_of id (get_or (venue_of b).regular k no_regular)) (sym r.1) ∙ r.0)
 
-  pub regular-not : Nothing ≡ regularFound (venueOf b) id → restsRegular (venueOf b) id ≡ false
-  unfolding regularFound
-  regular-not e = found-not (restsRegular (venueOf b) id) (regularPlace (venueOf b) id) e
+  pub regular-not : Nothing ≡ regular_found (venue_of b) id → rests_regular (venue_of b) id ≡ false
+  unfolding regular_found
+  regular-not e = found-not (rests_regular (venue_of b) id) (regular_place (venue_of b) id) e
 
-  pub complex-found : (i : ℕ) → At i ≡ complexFound (venueOf b) id → (restsComplex (venueOf b) id ≡ true) × (complexPlace (venueOf b) id ≡ i)
-  unfolding complexFound
-  complex-found i e = found_at (restsComplex (venueOf b) id) (complexPlace (venueOf b) id) i e
+  pub complex-found : (i : ℕ) → At i ≡ complex_found (venue_of b) id → (rests_complex (venue_of b) id ≡ true) × (complex_place (venue_of b) id ≡ i)
+  unfolding complex_found
+  complex-found i e = found_at (rests_complex (venue_of b) id) (complex_place (venue_of b) id) i e
 
-  pub complex-used : (i : ℕ) → At i ≡ complexFound (venueOf b) id → i < complexesUsed b
-  unfolding restsComplex complexAt venueOf
+  pub complex-used : (i : ℕ) → At i ≡ complex_found (venue_of b) id → i < complexes_used b
+  unfolding rests_complex complex_at venue_of
   complex-used i e =
       let r = complex-found i e in
-      passes-used (isComplexOf id) noComplex (complexIn b) (complexesUsed b) 32 i (complex-free id)
-      (ap (λ (k : ℕ). isComplexOf id (get_or (venueOf b).complex k noComplex)) (sym r.1) ∙ r.0)
+      passes-used (is_complex_of id) no_complex (complex_in b) (complexes_used b) 32 i (complex-free id)
+      (ap (λ (k : ℕ). is_complex_of id (get_or (venue_of b).complex k no_complex)) (sym r.1) ∙ r.0)
 
-  pub complex-not : Nothing ≡ complexFound (venueOf b) id → restsComplex (venueOf b) id ≡ false
-  unfolding complexFound
-  complex-not e = found-not (restsComplex (venueOf b) id) (complexPlace (venueOf b) id) e
+  pub complex-not : Nothing ≡ complex_found (venue_of b) id → rests_complex (venue_of b) id ≡ false
+  unfolding complex_found
+  complex-not e = found-not (rests_complex (venue_of b) id) (complex_place (venue_of b) id) e
 
 -- a cancel with its settling
 module _ (id : ℕ) (v : Venue) where
-  pub cancel-regular-law : (i : ℕ) → (restsRegular v id ≡ true) × (regularPlace v id ≡ i) → (cancelRegular i v ⟫ settle) ≡ cancel id v
+  pub cancel-regular-law : (i : ℕ) → (rests_regular v id ≡ true) × (regular_place v id ≡ i) → (cancel_regular i v ⟫ settle) ≡ cancel id v
   unfolding cancel
-  cancel-regular-law i r = rw r.0 (ap (λ (k : ℕ). cancelRegular k v ⟫ settle) (sym r.1))
+  cancel-regular-law i r = rw r.0 (ap (λ (k : ℕ). cancel_regular k v ⟫ settle) (sym r.1))
 
-  pub cancel-complex-law : restsRegular v id ≡ false → (cancelComplex (complexPlace v id) v ⟫ settle) ≡ cancel id v
+  pub cancel-complex-law : rests_regular v id ≡ false → (cancel_complex (complex_place v id) v ⟫ settle) ≡ cancel id v
   unfolding cancel
   cancel-complex-law e = rw e

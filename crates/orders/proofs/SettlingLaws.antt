@@ -9,74 +9,74 @@ use Rattle.rules.specs.declared.Regular.{Regular}
 use Rattle.rules.specs.declared.Complex.{Complex}
 use Rattle.rules.specs.declared.Venue.{Venue}
 use Rattle.rules.specs.Base.{held}
-use Rattle.rules.specs.Words.{noRegular, placeOf, regularAt, complexAt, withRegular}
-use Rattle.rules.specs.Prices.{showsAt}
+use Rattle.rules.specs.Words.{no_regular, place_of, regular_at, complex_at, with_regular}
+use Rattle.rules.specs.Prices.{shows_at}
 use Rattle.rules.specs.Effects.{report, ◌⟫◌}
-use Rattle.rules.specs.Trading.{freeRegular, putRegular, putComplex, fillRegular, lessRegular}
-use Rattle.rules.specs.Order.{meetTurn, enterRegular}
-use Rattle.rules.specs.Complex.{cancelRegular, cancelComplex, work}
+use Rattle.rules.specs.Trading.{free_regular, put_regular, put_complex, fill_regular, less_regular}
+use Rattle.rules.specs.Order.{meet_turn, enter_regular}
+use Rattle.rules.specs.Complex.{cancel_regular, cancel_complex, work}
 use Rattle.rules.proofs.Sizes.{free-shows}
 use Rattle.records.specs.Seen.{seen}
 use Rattle.records.specs.Stage.{stage, ◌does◌}
 use Rattle.records.proofs.StageLaws.{stage-room, stage-venue}
 use Rattle.places.specs.declared.Level.{Level}
-use Rattle.places.specs.Layout.{regularsUsed, regularIn, venueOf, levelIn, Right}
+use Rattle.places.specs.Layout.{regulars_used, regular_in, venue_of, level_in, Right}
 use Rattle.places.specs.Requirements.{DenseOrder}
 use Rattle.places.proofs.Parts.{regular-at}
 use Rattle.places.proofs.Tables.{used-free}
 use Rattle.place_writes.proofs.Closed.{dense-regular}
 use Rattle.settling.specs.Asked.{AllStanding}
 use Rattle.settling.proofs.Frames.{Sided, sided, other-side, filled-kept}
-use Rattle.settling.proofs.Silence.{Silent, silent-repeat, loud-meetTurn, silent-work, unwritten}
+use Rattle.settling.proofs.Silence.{Silent, silent-repeat, loud-meet_turn, silent-work, unwritten}
 
 -- An order ---------------------------------------------------------------------------------------
 
-silent-enter : (o : Regular) (v : Venue) → Silent (putRegular (freeRegular v) o v) (enterRegular o v)
-unfolding enterRegular
-silent-enter o v = silent-repeat (meetTurn (freeRegular v)) (loud-meetTurn (freeRegular v)) o.quantity _
+silent-enter : (o : Regular) (v : Venue) → Silent (put_regular (free_regular v) o v) (enter_regular o v)
+unfolding enter_regular
+silent-enter o v = silent-repeat (meet_turn (free_regular v)) (loud-meet_turn (free_regular v)) o.quantity _
 
 -- the place after those in use is free
-free-held : (b : List ℕ) → get_or (venueOf b).regular (regularsUsed b) noRegular ≡ noRegular
-unfolding venueOf
-free-held b = used-free (regularIn b) noRegular (regularsUsed b) 128 (regularsUsed b) (omega arith)
+free-held : (b : List ℕ) → get_or (venue_of b).regular (regulars_used b) no_regular ≡ no_regular
+unfolding venue_of
+free-held b = used-free (regular_in b) no_regular (regulars_used b) 128 (regulars_used b) (omega arith)
 
-pub order-sided : (b : List ℕ) (o : Regular) (before : Level) (w : Venue) (l m : List ℕ) (at end : ℕ) → DenseOrder b o → AllStanding (venueOf b) →
-    before ≡ levelIn b (placeOf o.series o.side) → stage w m end ≡ seen l at does enterRegular o (venueOf b) → end ≡ at → end ≤ length m →
+pub order-sided : (b : List ℕ) (o : Regular) (before : Level) (w : Venue) (l m : List ℕ) (at end : ℕ) → DenseOrder b o → AllStanding (venue_of b) →
+    before ≡ level_in b (place_of o.series o.side) → stage w m end ≡ seen l at does enter_regular o (venue_of b) → end ≡ at → end ≤ length m →
     Sided o.series o.side before w
-unfolding putRegular
+unfolding put_regular
 order-sided b o before w l m at end d st el e z h =
-    sided b (freeRegular (venueOf b)) o o.series o.side before w d.dense.right d.series d.side el old (λ t x ne. other-side t x o ne) st
-    (unwritten (putRegular (freeRegular (venueOf b)) o (venueOf b)) w l m at end (enterRegular o (venueOf b)) e (silent-enter o (venueOf b)) z
-    (let r = stage-room w m l end at (enterRegular o (venueOf b)) e in omega arith))
+    sided b (free_regular (venue_of b)) o o.series o.side before w d.dense.right d.series d.side el old (λ t x ne. other-side t x o ne) st
+    (unwritten (put_regular (free_regular (venue_of b)) o (venue_of b)) w l m at end (enter_regular o (venue_of b)) e (silent-enter o (venue_of b)) z
+    (let r = stage-room w m l end at (enter_regular o (venue_of b)) e in omega arith))
   where
-    old : (t e : ℕ) → (o.series ≡ t → o.side ≡ e → ⊥) → showsAt t e (get_or (venueOf b).regular (freeRegular (venueOf b)) noRegular) ≡ false
+    old : (t e : ℕ) → (o.series ≡ t → o.side ≡ e → ⊥) → shows_at t e (get_or (venue_of b).regular (free_regular (venue_of b)) no_regular) ≡ false
     old t e _ = free-shows t e _
-        (ap (λ (x : Regular). held x.quantity) (ap (λ (k : ℕ). get_or (venueOf b).regular k noRegular) (dense-regular b d.dense) ∙ free-held b))
+        (ap (λ (x : Regular). held x.quantity) (ap (λ (k : ℕ). get_or (venue_of b).regular k no_regular) (dense-regular b d.dense) ∙ free-held b))
 
 -- A cancel ---------------------------------------------------------------------------------------
 
 -- what is read at a place has a series and a side
-pub read-side : (b : List ℕ) (i : ℕ) (o : Regular) → o ≡ regularIn b i → (o.series < 8) × (o.side < 2)
-unfolding regularIn
+pub read-side : (b : List ℕ) (i : ℕ) (o : Regular) → o ≡ regular_in b i → (o.series < 8) × (o.side < 2)
+unfolding regular_in
 read-side b i o e = subst (λ (x : Regular). (x.series < 8) × (x.side < 2)) (sym e) (omega arith, omega arith)
 
-pub cancel-sided : (b : List ℕ) (i : ℕ) (o : Regular) (before : Level) (w : Venue) (l m : List ℕ) (at end : ℕ) → Right b → i < regularsUsed b → o ≡ regularIn b i →
-    AllStanding (venueOf b) → before ≡ levelIn b (placeOf o.series o.side) → stage w m end ≡ seen l at does cancelRegular i (venueOf b) →
+pub cancel-sided : (b : List ℕ) (i : ℕ) (o : Regular) (before : Level) (w : Venue) (l m : List ℕ) (at end : ℕ) → Right b → i < regulars_used b → o ≡ regular_in b i →
+    AllStanding (venue_of b) → before ≡ level_in b (place_of o.series o.side) → stage w m end ≡ seen l at does cancel_regular i (venue_of b) →
     Sided o.series o.side before w
-unfolding cancelRegular report fillRegular lessRegular regularAt
+unfolding cancel_regular report fill_regular less_regular regular_at
 cancel-sided b i o before w l m at end r h eo st el e =
-    let q = regularAt (venueOf b) i in
-    let y = lessRegular q.quantity q in
+    let q = regular_at (venue_of b) i in
+    let y = less_regular q.quantity q in
     let x : q ≡ o = regular-at b i h ∙ sym eo in
     let z = read-side b i o eo in
     sided b i y o.series o.side before w r z.0 z.1 el
     (λ t f ne. other-side t f q (λ u v. ne (ap (λ (k : Regular). k.series) (sym x) ∙ u) (ap (λ (k : Regular). k.side) (sym x) ∙ v)))
     (λ t f ne. other-side t f y (λ u v. ne (ap (λ (k : Regular). k.series) (sym x) ∙ u) (ap (λ (k : Regular). k.side) (sym x) ∙ v)))
-    st (stage-venue w m l end at (cancelRegular i (venueOf b)) e)
+    st (stage-venue w m l end at (cancel_regular i (venue_of b)) e)
 
-pub cancel-standing : (v : Venue) (i : ℕ) (w : Venue) (l m : List ℕ) (at end : ℕ) → AllStanding v → stage w m end ≡ seen l at does cancelComplex i v → AllStanding w
-unfolding cancelComplex report ◌⟫◌
-cancel-standing v i w l m at end st e = subst AllStanding (sym (stage-venue w m l end at (cancelComplex i v) e)) (filled-kept v i _ _ st)
+pub cancel-standing : (v : Venue) (i : ℕ) (w : Venue) (l m : List ℕ) (at end : ℕ) → AllStanding v → stage w m end ≡ seen l at does cancel_complex i v → AllStanding w
+unfolding cancel_complex report ◌⟫◌
+cancel-standing v i w l m at end st e = subst AllStanding (sym (stage-venue w m l end at (cancel_complex i v) e)) (filled-kept v i _ _ st)
 
 -- A complex order --------------------------------------------------------------------------------
 

@@ -9,12 +9,12 @@ use lib.ListN.{length, get_or, set, length-set}
 use lib.Seq.{ext_get_or, get_or-set_same, get_or-set_other}
 use Rattle.rules.specs.declared.Regular.{Regular}
 use Rattle.rules.specs.declared.Venue.{Venue}
-use Rattle.rules.specs.Words.{noRegular, regularAt, withRegular}
-use Rattle.rules.specs.Standing.{showsAgain, showAgain}
+use Rattle.rules.specs.Words.{no_regular, regular_at, with_regular}
+use Rattle.rules.specs.Standing.{shows_again, show_again}
 use Rattle.rules.proofs.Again.{again-at, again-fewer}
 use Rattle.rules.proofs.Showing.{Showing, again-showing}
-use Rattle.places.specs.Layout.{size, regularsUsed, regularIn, venueOf, Fully, SameBeside}
-use Rattle.places.specs.Offsets.{regularReserveAt, regularDisplayAt, regularReserveNextAt, showAgainAt, generationMessagesAt}
+use Rattle.places.specs.Layout.{size, regulars_used, regular_in, venue_of, Fully, SameBeside}
+use Rattle.places.specs.Offsets.{regular_reserve_at, regular_display_at, regular_reserve_next_at, show_again_at, generation_messages_at}
 use Rattle.places.proofs.Parts.{Outside, stored, wider, joined, unmoved, regulars-few, regulars-many, regular-at, regular-past, regular-kept}
 use Rattle.places.proofs.Parts.{count_kept, count-kept2, complexes-kept, leggings-kept, series-kept, editions-kept, generations-kept, last-kept}
 use Rattle.places.proofs.Parts.{reached-kept, venue-is}
@@ -23,78 +23,78 @@ use Rattle.places.proofs.Beside.{levels-kept, regulars-marked, complexes-marked,
 -- the orders at the first i places show again
 pub record ShowingAgain (a b : List ℕ) (i : ℕ) : Type 0 where
   pub long : length b ≡ size
-  pub outside : Outside regularReserveAt showAgainAt a b
-  pub done : (k : ℕ) → k < i → k < 128 → regularIn b k ≡ showsAgain (regularIn a k)
-  pub rest : (k : ℕ) → i ≤ k → k < 128 → regularIn b k ≡ regularIn a k
+  pub outside : Outside regular_reserve_at show_again_at a b
+  pub done : (k : ℕ) → k < i → k < 128 → regular_in b k ≡ shows_again (regular_in a k)
+  pub rest : (k : ℕ) → i ≤ k → k < 128 → regular_in b k ≡ regular_in a k
 
 pub again-start : (a : List ℕ) → length a ≡ size → ShowingAgain a a 0
 again-start a n = record { long = n; outside = unmoved; done = λ k w. absurd (omega arith); rest = λ k w f. refl }
 
 -- one order, whose reserve becomes all but its shown quantity
-here : (b : List ℕ) (i x : ℕ) → length b ≡ size → i < 128 → x ≡ (regularIn b i).quantity - (regularIn b i).display → regularIn (set b (2 * i + regularReserveAt) x) i ≡ showsAgain (regularIn b i)
-unfolding regularIn showsAgain
+here : (b : List ℕ) (i x : ℕ) → length b ≡ size → i < 128 → x ≡ (regular_in b i).quantity - (regular_in b i).display → regular_in (set b (2 * i + regular_reserve_at) x) i ≡ shows_again (regular_in b i)
+unfolding regular_in shows_again
 here b i x n h e =
     let q = get_or b (4 * i + 3) 0 in
-    let d = get_or b (2 * i + regularDisplayAt) 0 in
+    let d = get_or b (2 * i + regular_display_at) 0 in
     let z : min x q ≡ q - min d q = omega arith in
     rw (
-      get_or-set_same b (2 * i + regularReserveAt) x 0 (omega arith),
-      get_or-set_other b (2 * i + regularReserveAt) (4 * i) x 0 (λ w. omega arith),
-      get_or-set_other b (2 * i + regularReserveAt) (4 * i + 1) x 0 (λ w. omega arith),
-      get_or-set_other b (2 * i + regularReserveAt) (4 * i + 2) x 0 (λ w. omega arith),
-      get_or-set_other b (2 * i + regularReserveAt) (4 * i + 3) x 0 (λ w. omega arith),
-      get_or-set_other b (2 * i + regularReserveAt) (2 * i + regularDisplayAt) x 0 (λ w. omega arith),
+      get_or-set_same b (2 * i + regular_reserve_at) x 0 (omega arith),
+      get_or-set_other b (2 * i + regular_reserve_at) (4 * i) x 0 (λ w. omega arith),
+      get_or-set_other b (2 * i + regular_reserve_at) (4 * i + 1) x 0 (λ w. omega arith),
+      get_or-set_other b (2 * i + regular_reserve_at) (4 * i + 2) x 0 (λ w. omega arith),
+      get_or-set_other b (2 * i + regular_reserve_at) (4 * i + 3) x 0 (λ w. omega arith),
+      get_or-set_other b (2 * i + regular_reserve_at) (2 * i + regular_display_at) x 0 (λ w. omega arith),
       z,
     ) refl
 
-pub again-next : (a b : List ℕ) (i : ℕ) (o : Regular) (x : ℕ) → ShowingAgain a b i → i < 128 → o ≡ regularIn b i → x ≡ o.quantity - o.display →
-    ShowingAgain a (set b (2 * i + regularReserveAt) x) (i + 1)
+pub again-next : (a b : List ℕ) (i : ℕ) (o : Regular) (x : ℕ) → ShowingAgain a b i → i < 128 → o ≡ regular_in b i → x ≡ o.quantity - o.display →
+    ShowingAgain a (set b (2 * i + regular_reserve_at) x) (i + 1)
 again-next a b i o x m h is e = record {
-  long = length-set b (2 * i + regularReserveAt) x ∙ m.long;
+  long = length-set b (2 * i + regular_reserve_at) x ∙ m.long;
   outside = joined m.outside (wider (omega arith) (omega arith) one);
   done = λ k w f. elim (ℕ_discrete k i) [
-    | yes q ↦ ap (regularIn c) q ∙ here b i x m.long h (e ∙ ap (λ (y : Regular). y.quantity - y.display) is) ∙ ap showsAgain
-        (m.rest i (omega arith) h) ∙ sym (ap (λ (j : ℕ). showsAgain (regularIn a j)) q)
+    | yes q ↦ ap (regular_in c) q ∙ here b i x m.long h (e ∙ ap (λ (y : Regular). y.quantity - y.display) is) ∙ ap shows_again
+        (m.rest i (omega arith) h) ∙ sym (ap (λ (j : ℕ). shows_again (regular_in a j)) q)
     | no q ↦ sym (regular-kept one k (inl (omega arith)) (near k q)) ∙ m.done k (omega arith) f
   ];
   rest = λ k w f. sym (regular-kept one k (inl (omega arith)) (inr (omega arith))) ∙ m.rest k (omega arith) f;
 }
   where
     c : List ℕ
-    c = set b (2 * i + regularReserveAt) x
+    c = set b (2 * i + regular_reserve_at) x
 
-    one : Outside (2 * i + regularReserveAt) (2 * i + regularDisplayAt) b c
-    one = wider (omega arith) (omega arith) (stored b (2 * i + regularReserveAt) x)
+    one : Outside (2 * i + regular_reserve_at) (2 * i + regular_display_at) b c
+    one = wider (omega arith) (omega arith) (stored b (2 * i + regular_reserve_at) x)
 
-    near : (k : ℕ) → k ≢ i → (2 * k + regularReserveNextAt ≤ 2 * i + regularReserveAt) ⊎ (2 * i + regularDisplayAt ≤ 2 * k + regularReserveAt)
+    near : (k : ℕ) → k ≢ i → (2 * k + regular_reserve_next_at ≤ 2 * i + regular_reserve_at) ⊎ (2 * i + regular_display_at ≤ 2 * k + regular_reserve_at)
     near k q = elim (dec_lt k i) [ yes p ↦ inl (omega arith) | no p ↦ inr (omega arith) ]
 
 -- all that are in use, and so all
-module _ (a b : List ℕ) (n i : ℕ) (m : ShowingAgain a b i) (used : n ≡ regularsUsed a) (h : n ≤ i) where
-  same-used : regularsUsed b ≡ regularsUsed a
+module _ (a b : List ℕ) (n i : ℕ) (m : ShowingAgain a b i) (used : n ≡ regulars_used a) (h : n ≤ i) where
+  same-used : regulars_used b ≡ regulars_used a
   same-used = count_kept m.outside (inl (omega arith))
 
-  at : (k : ℕ) → Dec (k < n) → regularAt (venueOf b) k ≡ regularAt (showAgain (venueOf a)) k
-  unfolding regularAt
+  at : (k : ℕ) → Dec (k < n) → regular_at (venue_of b) k ≡ regular_at (show_again (venue_of a)) k
+  unfolding regular_at
   at k (yes w) =
       let z = regulars-few a in
-      regular-at b k (omega (arith, same-used)) ∙ m.done k (omega arith) (omega arith) ∙ ap showsAgain (sym (regular-at a k (omega arith))) ∙ sym (again-at (venueOf a) k)
+      regular-at b k (omega (arith, same-used)) ∙ m.done k (omega arith) (omega arith) ∙ ap shows_again (sym (regular-at a k (omega arith))) ∙ sym (again-at (venue_of a) k)
   at k (no w) =
-      let z : noRegular ≡ showsAgain noRegular = unfold showsAgain in refl in
-      regular-past b k (omega (arith, same-used)) ∙ z ∙ ap showsAgain (sym (regular-past a k (omega arith))) ∙ sym (again-at (venueOf a) k)
+      let z : no_regular ≡ shows_again no_regular = unfold shows_again in refl in
+      regular-past b k (omega (arith, same-used)) ∙ z ∙ ap shows_again (sym (regular-past a k (omega arith))) ∙ sym (again-at (venue_of a) k)
 
-  orders : (venueOf b).regular ≡ (showAgain (venueOf a)).regular
-  unfolding regularAt
-  orders = ext_get_or noRegular (venueOf b).regular (showAgain (venueOf a)).regular (regulars-many b ∙ sym ((again-fewer (venueOf a)).same ∙ regulars-many a)) (λ k q. at k (dec_lt k n))
+  orders : (venue_of b).regular ≡ (show_again (venue_of a)).regular
+  unfolding regular_at
+  orders = ext_get_or no_regular (venue_of b).regular (show_again (venue_of a)).regular (regulars-many b ∙ sym ((again-fewer (venue_of a)).same ∙ regulars-many a)) (λ k q. at k (dec_lt k n))
 
-  again-venue : venueOf b ≡ showAgain (venueOf a)
-  unfolding showAgain withRegular
+  again-venue : venue_of b ≡ show_again (venue_of a)
+  unfolding show_again with_regular
   again-venue =
       let o = m.outside in
-      venue-is (venueOf b) (showAgain (venueOf a)) orders (complexes-kept o (inr (omega arith)) (inl (omega arith))) (leggings-kept o (inr (omega arith)))
+      venue-is (venue_of b) (show_again (venue_of a)) orders (complexes-kept o (inr (omega arith)) (inl (omega arith))) (leggings-kept o (inr (omega arith)))
       (series-kept o (inr (omega arith))) (editions-kept o (inr (omega arith))) (generations-kept o (inl (omega arith))) (last-kept o (inl (omega arith))) (reached-kept o (inr (omega arith)))
 
-  pub again-end : (venueOf (set b showAgainAt 0) ≡ showAgain (venueOf a)) × SameBeside a (set b showAgainAt 0)
+  pub again-end : (venue_of (set b show_again_at 0) ≡ show_again (venue_of a)) × SameBeside a (set b show_again_at 0)
   again-end = (
     venue,
     record {
@@ -106,16 +106,16 @@ module _ (a b : List ℕ) (n i : ℕ) (m : ShowingAgain a b i) (used : n ≡ reg
         complexes = complexes-marked p (inr (omega arith)) (inl (omega arith)) (inl (omega arith)) (complexes-marked o (inr (omega arith)) (inl (omega arith)) (inl (omega arith)) x.complexes);
         legging = legging-marked p (inr (omega arith)) (inl (omega arith)) (legging-marked o (inr (omega arith)) (inl (omega arith)) x.legging);
         figures = figures-marked p (inr (omega arith)) (figures-marked o (inr (omega arith)) x.figures);
-        shows = λ _. subst (λ (v : Venue). Fully v.regular) (sym venue) (unfold Showing in again-showing (venueOf a));
+        shows = λ _. subst (λ (v : Venue). Fully v.regular) (sym venue) (unfold Showing in again-showing (venue_of a));
       };
     },
   )
     where
-      o : Outside regularReserveAt showAgainAt a b
+      o : Outside regular_reserve_at show_again_at a b
       o = m.outside
 
-      p : Outside showAgainAt generationMessagesAt b (set b showAgainAt 0)
-      p = stored b showAgainAt 0
+      p : Outside show_again_at generation_messages_at b (set b show_again_at 0)
+      p = stored b show_again_at 0
 
-      venue : venueOf (set b showAgainAt 0) ≡ showAgain (venueOf a)
+      venue : venue_of (set b show_again_at 0) ≡ show_again (venue_of a)
       venue = beside-venue p (omega arith) (inr (omega arith)) (inl (omega arith)) (omega arith) ∙ again-venue

@@ -9,10 +9,10 @@ use native.Mathlib.Decide.{dec_lt}
 use native.Mathlib.Numerals.{add-one}
 use lib.ListN.{length, replicate}
 use lib.Seq.{sets}
-use Rattle.rules.specs.Base.{if◌then◌else◌, placeWhere}
+use Rattle.rules.specs.Base.{if◌then◌else◌, place_where}
 use Rattle.rules.specs.Base.{keep}
 use Rattle.rules.specs.Places.{packed}
-use Rattle.places.specs.Layout.{size, upto, inUse, Filled}
+use Rattle.places.specs.Layout.{size, upto, in_use, Filled}
 use Rattle.places.proofs.Tables.{upto-length, upto-same, upto-more, used-length}
 use Rattle.places.proofs.Parts.{Outside, wider, joined, unmoved}
 use Rattle.place_writes.proofs.Stores.{sets-outside, sets-length}
@@ -84,34 +84,34 @@ module _ {A : Type 0} (holds : A → Bool) where
           let e : n - n ≡ 0 = omega arith in
           sym (append-nil (upto g 0 j)) ∙ sym (ap (λ (k : ℕ). upto g 0 j ++ keep holds (upto f n k)) e) ∙ p.front
 
-      kept_in : keep holds (inUse f none n all) ≡ upto g 0 j
-      unfolding inUse
+      kept_in : keep holds (in_use f none n all) ≡ upto g 0 j
+      unfolding in_use
       kept_in = keep-free (upto f 0 n) (all - n) ∙ sym kept-is
 
       -- the number of those that are held
-      pub closed-count : length (keep holds (inUse f none n all)) ≡ j
+      pub closed-count : length (keep holds (in_use f none n all)) ≡ j
       closed-count = ap length kept_in ∙ upto-length g 0 j
 
-      in_use : inUse g none j all ≡ upto g 0 j ++ replicate (all - j) none
-      unfolding inUse
+      in_use : in_use g none j all ≡ upto g 0 j ++ replicate (all - j) none
+      unfolding in_use
       in_use = refl
 
-      pub closed-part : inUse g none j all ≡ packed holds none (inUse f none n all)
+      pub closed-part : in_use g none j all ≡ packed holds none (in_use f none n all)
       unfolding packed
       closed-part =
-          let e : length (inUse f none n all) - length (keep holds (inUse f none n all)) ≡ all - j = omega (arith, used-length f none n all h, closed-count) in
+          let e : length (in_use f none n all) - length (keep holds (in_use f none n all)) ≡ all - j = omega (arith, used-length f none n all h, closed-count) in
           in_use ∙ ap₂ (λ (l : List A) (k : ℕ). l ++ replicate k none) (sym kept_in) (sym e)
 
     -- the first free place is the one after those in use
-    first-free : (f : ℕ → A) (i k m : ℕ) → ((x : ℕ) → i ≤ x → x < i + k → holds (f x) ≡ true) → placeWhere (λ o. not (holds o)) (upto f i k ++ replicate m none) ≡ k
-    unfolding placeWhere upto
+    first-free : (f : ℕ → A) (i k m : ℕ) → ((x : ℕ) → i ≤ x → x < i + k → holds (f x) ≡ true) → place_where (λ o. not (holds o)) (upto f i k ++ replicate m none) ≡ k
+    unfolding place_where upto
     first-free f i zero zero h = refl
     first-free f i zero (suc m) h = rw free refl
     first-free f i (suc k) m h =
         rw (h i (omega arith) (omega arith)) (ap suc (first-free f (suc i) k m (λ x p q. h x (omega arith) (omega arith))))
 
-    pub free-place : (f : ℕ → A) (n all : ℕ) → Filled holds f n → placeWhere (λ o. not (holds o)) (inUse f none n all) ≡ n
-    unfolding inUse
+    pub free-place : (f : ℕ → A) (n all : ℕ) → Filled holds f n → place_where (λ o. not (holds o)) (in_use f none n all) ≡ n
+    unfolding in_use
     free-place f n all full = first-free f 0 n (all - n) (λ x p q. full x (omega arith))
 
 -- Rows of numbers ------------------------------------------------------------------------------

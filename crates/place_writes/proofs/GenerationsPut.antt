@@ -8,10 +8,10 @@ use native.Mathlib.Decide.{dec_lt, ℕ_discrete}
 use lib.ListN.{length, get_or, set, length-set}
 use lib.Seq.{ext_get_or, get_or-set_same, get_or-set_other}
 use Rattle.rules.specs.declared.Generations.{Generations}
-use Rattle.rules.specs.Words.{noGenerations, withGenerations, withReached}
-use Rattle.rules.specs.Generation.{generationsOf, oneMore, counted}
-use Rattle.places.specs.Layout.{size, upto, generationsIn, venueOf, SameCounts}
-use Rattle.places.specs.Offsets.{showAgainAt, generationMessagesAt, generationNewestAt, generationNextAt, idReachedAt}
+use Rattle.rules.specs.Words.{no_generations, with_generations, with_reached}
+use Rattle.rules.specs.Generation.{generations_of, one_more, counted}
+use Rattle.places.specs.Layout.{size, upto, generations_in, venue_of, SameCounts}
+use Rattle.places.specs.Offsets.{show_again_at, generation_messages_at, generation_newest_at, generation_next_at, id_reached_at}
 use Rattle.places.proofs.Tables.{upto-length, upto-at, upto-along, upto_from, upto-set}
 use Rattle.places.proofs.Parts.{Outside, stored, count_kept, count-kept2, regulars-kept, complexes-kept, leggings-kept, series-kept, editions-kept}
 use Rattle.places.proofs.Parts.{generation-kept, generations-kept, last-kept, reached-kept, venue-is}
@@ -21,7 +21,7 @@ use Rattle.places.proofs.Generations.{generations-at}
 -- What a store leaves -------------------------------------------------------------------------
 
 -- a store past all that is kept beside the venue
-pub counts-after : {low high : ℕ} {a b : List ℕ} → Outside low high a b → generationMessagesAt ≤ low → SameCounts a b
+pub counts-after : {low high : ℕ} {a b : List ℕ} → Outside low high a b → generation_messages_at ≤ low → SameCounts a b
 counts-after {a = a} {b = b} o l = record {
   regulars = count_kept o (inl (omega arith));
   complexes = count-kept2 o (inl (omega arith));
@@ -30,18 +30,18 @@ counts-after {a = a} {b = b} o l = record {
     complexes = complexes-marked o (inr (omega arith)) (inl (omega arith)) (inl (omega arith)) m.complexes;
     legging = legging-marked o (inr (omega arith)) (inl (omega arith)) m.legging;
     figures = figures-marked o (inr (omega arith)) m.figures;
-    shows = shows-as a b (o.same showAgainAt (inl (omega arith))) orders m.shows;
+    shows = shows-as a b (o.same show_again_at (inl (omega arith))) orders m.shows;
   });
 }
   where
-    orders : (venueOf b).regular ≡ (venueOf a).regular
+    orders : (venue_of b).regular ≡ (venue_of a).regular
     orders = regulars-kept o (omega arith) (inl (omega arith)) (inl (omega arith))
 
-pub generations-set : {s : ℕ} {a b : List ℕ} → Outside (20 * s + generationMessagesAt) (20 * s + generationNextAt) a b → s < 8 →
-    venueOf b ≡ withGenerations (venueOf a) (set (venueOf a).generations s (generationsIn b s))
-unfolding withGenerations
+pub generations-set : {s : ℕ} {a b : List ℕ} → Outside (20 * s + generation_messages_at) (20 * s + generation_next_at) a b → s < 8 →
+    venue_of b ≡ with_generations (venue_of a) (set (venue_of a).generations s (generations_in b s))
+unfolding with_generations
 generations-set {s = s} {a = a} {b = b} o h =
-    venue-is (venueOf b) (withGenerations (venueOf a) (set (venueOf a).generations s (generationsIn b s)))
+    venue-is (venue_of b) (with_generations (venue_of a) (set (venue_of a).generations s (generations_in b s)))
     (regulars-kept o (omega arith) (inl (omega arith)) (inl (omega arith)))
     (complexes-kept o (inr (omega arith)) (inl (omega arith)))
     (leggings-kept o (inr (omega arith)))
@@ -51,16 +51,16 @@ generations-set {s = s} {a = a} {b = b} o h =
     (last-kept o (inl (omega arith)))
     (reached-kept o (inr (omega arith)))
   where
-    near : (j : ℕ) → j ≢ s → (20 * j + generationNextAt ≤ 20 * s + generationMessagesAt) ⊎ (20 * s + generationNextAt ≤ 20 * j + generationMessagesAt)
+    near : (j : ℕ) → j ≢ s → (20 * j + generation_next_at ≤ 20 * s + generation_messages_at) ⊎ (20 * s + generation_next_at ≤ 20 * j + generation_messages_at)
     near j n = elim (dec_lt j s) [ yes q ↦ inl (omega arith) | no q ↦ inr (omega arith) ]
 
-    part : (venueOf b).generations ≡ set (venueOf a).generations s (generationsIn b s)
-    part = unfold venueOf in (upto-set (generationsIn a) (generationsIn b) noGenerations s 8 h (λ j q n. generation-kept o j (near j n)))
+    part : (venue_of b).generations ≡ set (venue_of a).generations s (generations_in b s)
+    part = unfold venue_of in (upto-set (generations_in a) (generations_in b) no_generations s 8 h (λ j q n. generation-kept o j (near j n)))
 
-pub put-reached : (a : List ℕ) (id : ℕ) → length a ≡ size → (venueOf (set a idReachedAt id) ≡ withReached (venueOf a) id) × SameCounts a (set a idReachedAt id)
-unfolding withReached
+pub put-reached : (a : List ℕ) (id : ℕ) → length a ≡ size → (venue_of (set a id_reached_at id) ≡ with_reached (venue_of a) id) × SameCounts a (set a id_reached_at id)
+unfolding with_reached
 put-reached a id n = (
-  venue-is (venueOf (set a idReachedAt id)) (withReached (venueOf a) id)
+  venue-is (venue_of (set a id_reached_at id)) (with_reached (venue_of a) id)
       (regulars-kept o (omega arith) (inl (omega arith)) (inl (omega arith)))
       (complexes-kept o (inr (omega arith)) (inl (omega arith)))
       (leggings-kept o (inr (omega arith)))
@@ -68,12 +68,12 @@ put-reached a id n = (
       (editions-kept o (inr (omega arith)))
       (generations-kept o (inr (omega arith)))
       (last-kept o (inl (omega arith)))
-      (unfold venueOf in get_or-set_same a idReachedAt id 0 (omega arith)),
+      (unfold venue_of in get_or-set_same a id_reached_at id 0 (omega arith)),
   counts-after o (omega arith),
 )
   where
-    o : Outside idReachedAt 1393 a (set a idReachedAt id)
-    o = stored a idReachedAt id
+    o : Outside id_reached_at 1393 a (set a id_reached_at id)
+    o = stored a id_reached_at id
 
 -- Numbers in turn -----------------------------------------------------------------------------
 
@@ -104,23 +104,23 @@ written_next f first i j a b x m le lt is e = record {
     fewer k (inl h) = inl h
     fewer k (inr h) = inr (omega arith)
 
-written-outside : (f : ℕ → ℕ) (s : ℕ) (a b : List ℕ) → Written f (20 * s + generationMessagesAt) (20 * s + generationNextAt) a b → Outside
-    (20 * s + generationMessagesAt) (20 * s + generationNextAt) a b
+written-outside : (f : ℕ → ℕ) (s : ℕ) (a b : List ℕ) → Written f (20 * s + generation_messages_at) (20 * s + generation_next_at) a b → Outside
+    (20 * s + generation_messages_at) (20 * s + generation_next_at) a b
 written-outside f s a b m = record { same = m.rest }
 
 -- a series' generations so written
-written-set : (f : ℕ → ℕ) (s : ℕ) (a b : List ℕ) (l : List ℕ) → s < 8 → Written f (20 * s + generationMessagesAt) (20 * s + generationNextAt) a b → upto f (20 * s + generationMessagesAt) 20 ≡ l →
-    (venueOf b ≡ withGenerations (venueOf a) (set (venueOf a).generations s (record { messages = l }))) × SameCounts a b
-unfolding generationsIn
+written-set : (f : ℕ → ℕ) (s : ℕ) (a b : List ℕ) (l : List ℕ) → s < 8 → Written f (20 * s + generation_messages_at) (20 * s + generation_next_at) a b → upto f (20 * s + generation_messages_at) 20 ≡ l →
+    (venue_of b ≡ with_generations (venue_of a) (set (venue_of a).generations s (record { messages = l }))) × SameCounts a b
+unfolding generations_in
 written-set f s a b l h m e = (
-  generations-set (written-outside f s a b m) h ∙ ap (λ (g : Generations). withGenerations (venueOf a) (set (venueOf a).generations s g)) part,
+  generations-set (written-outside f s a b m) h ∙ ap (λ (g : Generations). with_generations (venue_of a) (set (venue_of a).generations s g)) part,
   counts-after (written-outside f s a b m) (omega arith),
 )
   where
-    part : generationsIn b s ≡ record { messages = l }
+    part : generations_in b s ≡ record { messages = l }
     part = rw (
-      upto-along (λ k. get_or b k 0) f (20 * s + generationMessagesAt) (20 * s + generationMessagesAt) 20
-          (λ x w. m.here (20 * s + generationMessagesAt + x) (omega arith) (omega arith)),
+      upto-along (λ k. get_or b k 0) f (20 * s + generation_messages_at) (20 * s + generation_messages_at) 20
+          (λ x w. m.here (20 * s + generation_messages_at + x) (omega arith) (omega arith)),
       e,
     ) refl
 
@@ -128,26 +128,26 @@ written-set f s a b l h m e = (
 abbrev pub list_from : (first : ℕ) → List ℕ → ℕ → ℕ
 list_from first l k = get_or l (k - first) 0
 
-pub put_next : (s k : ℕ) (l a b : List ℕ) → Written (list_from (20 * s + generationMessagesAt) l) (20 * s + generationMessagesAt) (20 * s + k + generationMessagesAt) a b → s < 8 → k < 20 →
-    Written (list_from (20 * s + generationMessagesAt) l) (20 * s + generationMessagesAt) (20 * s + (k + 1) + generationMessagesAt) a (set b (20 * s + k + generationMessagesAt) (get_or l k 0))
+pub put_next : (s k : ℕ) (l a b : List ℕ) → Written (list_from (20 * s + generation_messages_at) l) (20 * s + generation_messages_at) (20 * s + k + generation_messages_at) a b → s < 8 → k < 20 →
+    Written (list_from (20 * s + generation_messages_at) l) (20 * s + generation_messages_at) (20 * s + (k + 1) + generation_messages_at) a (set b (20 * s + k + generation_messages_at) (get_or l k 0))
 put_next s k l a b m h w =
-    written_next (list_from (20 * s + generationMessagesAt) l) (20 * s + generationMessagesAt) (20 * s + k + generationMessagesAt)
-    (20 * s + (k + 1) + generationMessagesAt) a b (get_or l k 0) m (omega arith) (omega arith) (omega arith)
+    written_next (list_from (20 * s + generation_messages_at) l) (20 * s + generation_messages_at) (20 * s + k + generation_messages_at)
+    (20 * s + (k + 1) + generation_messages_at) a b (get_or l k 0) m (omega arith) (omega arith) (omega arith)
     (ap (λ (j : ℕ). get_or l j 0) (omega arith))
 
 pub put-generations : (s k : ℕ) (a b : List ℕ) (g : Generations) → s < 8 → length g.messages ≡ 20 → k ≡ 20 →
-    Written (list_from (20 * s + generationMessagesAt) g.messages) (20 * s + generationMessagesAt) (20 * s + k + generationMessagesAt) a b →
-    (venueOf b ≡ withGenerations (venueOf a) (set (venueOf a).generations s g)) × SameCounts a b
+    Written (list_from (20 * s + generation_messages_at) g.messages) (20 * s + generation_messages_at) (20 * s + k + generation_messages_at) a b →
+    (venue_of b ≡ with_generations (venue_of a) (set (venue_of a).generations s g)) × SameCounts a b
 put-generations s k a b g h n e m =
-    let z : 20 * s + k + generationMessagesAt ≡ 20 * s + generationNextAt = omega arith in
+    let z : 20 * s + k + generation_messages_at ≡ 20 * s + generation_next_at = omega arith in
     written-set f s a b g.messages h (rw z at m) whole-list
   where
     f : ℕ → ℕ
-    f = list_from (20 * s + generationMessagesAt) g.messages
+    f = list_from (20 * s + generation_messages_at) g.messages
 
-    whole-list : upto f (20 * s + generationMessagesAt) 20 ≡ g.messages
-    whole-list = ext_get_or 0 (upto f (20 * s + generationMessagesAt) 20) g.messages (upto-length f (20 * s + generationMessagesAt) 20 ∙ sym n)
-        (λ j w. upto-at f 0 (20 * s + generationMessagesAt) 20 j (omega (arith, upto-length f (20 * s + generationMessagesAt) 20)) ∙ ap (λ (x : ℕ). get_or g.messages x 0) (omega arith))
+    whole-list : upto f (20 * s + generation_messages_at) 20 ≡ g.messages
+    whole-list = ext_get_or 0 (upto f (20 * s + generation_messages_at) 20) g.messages (upto-length f (20 * s + generation_messages_at) 20 ∙ sym n)
+        (λ j w. upto-at f 0 (20 * s + generation_messages_at) 20 j (omega (arith, upto-length f (20 * s + generation_messages_at) 20)) ∙ ap (λ (x : ℕ). get_or g.messages x 0) (omega arith))
 
 -- One generation more -------------------------------------------------------------------------
 
@@ -155,43 +155,43 @@ put-generations s k a b g h n e m =
 abbrev pub after : List ℕ → ℕ → ℕ
 after a k = get_or a (k + 1) 0
 
-count-here : (s number k : ℕ) (a b : List ℕ) → s < 8 → k ≡ 20 * s + generationNewestAt → Written (after a) (20 * s + generationMessagesAt) k a b →
-    (venueOf (set b (20 * s + generationNewestAt) number) ≡ counted number s (venueOf a)) × SameCounts a (set b (20 * s + generationNewestAt) number)
-unfolding counted oneMore generationsOf generationsIn upto
+count-here : (s number k : ℕ) (a b : List ℕ) → s < 8 → k ≡ 20 * s + generation_newest_at → Written (after a) (20 * s + generation_messages_at) k a b →
+    (venue_of (set b (20 * s + generation_newest_at) number) ≡ counted number s (venue_of a)) × SameCounts a (set b (20 * s + generation_newest_at) number)
+unfolding counted one_more generations_of generations_in upto
 count-here s number k a b h e m = written-set (λ j. get_or c j 0) s a c _ h all-written messages
   where
     c : List ℕ
-    c = set b (20 * s + generationNewestAt) number
+    c = set b (20 * s + generation_newest_at) number
 
-    apart : (j : ℕ) → (j < 20 * s + generationMessagesAt) ⊎ (20 * s + generationNextAt ≤ j) → j ≢ 20 * s + generationNewestAt
+    apart : (j : ℕ) → (j < 20 * s + generation_messages_at) ⊎ (20 * s + generation_next_at ≤ j) → j ≢ 20 * s + generation_newest_at
     apart j (inl w) q = omega arith
     apart j (inr w) q = omega arith
 
-    fewer : (j : ℕ) → (j < 20 * s + generationMessagesAt) ⊎ (20 * s + generationNextAt ≤ j) → (j < 20 * s + generationMessagesAt) ⊎ (k ≤ j)
+    fewer : (j : ℕ) → (j < 20 * s + generation_messages_at) ⊎ (20 * s + generation_next_at ≤ j) → (j < 20 * s + generation_messages_at) ⊎ (k ≤ j)
     fewer j (inl w) = inl w
     fewer j (inr w) = inr (omega arith)
 
-    all-written : Written (λ j. get_or c j 0) (20 * s + generationMessagesAt) (20 * s + generationNextAt) a c
+    all-written : Written (λ j. get_or c j 0) (20 * s + generation_messages_at) (20 * s + generation_next_at) a c
     all-written = record {
-      long = length-set b (20 * s + generationNewestAt) number ∙ m.long;
+      long = length-set b (20 * s + generation_newest_at) number ∙ m.long;
       here = λ j p q. refl;
-      rest = λ j w. get_or-set_other b (20 * s + generationNewestAt) j number 0 (apart j w) ∙ m.rest j (fewer j w);
+      rest = λ j w. get_or-set_other b (20 * s + generation_newest_at) j number 0 (apart j w) ∙ m.rest j (fewer j w);
     }
 
-    last : get_or c (20 * s + generationMessagesAt + 19) 0 ≡ number
-    last = let q : 20 * s + generationMessagesAt + 19 ≡ 20 * s + generationNewestAt = omega arith in ap (λ (j : ℕ). get_or c j 0) q ∙ get_or-set_same b
-        (20 * s + generationNewestAt) number 0 (omega (arith, m.long))
+    last : get_or c (20 * s + generation_messages_at + 19) 0 ≡ number
+    last = let q : 20 * s + generation_messages_at + 19 ≡ 20 * s + generation_newest_at = omega arith in ap (λ (j : ℕ). get_or c j 0) q ∙ get_or-set_same b
+        (20 * s + generation_newest_at) number 0 (omega (arith, m.long))
 
-    moved : (x : ℕ) → x < 19 → get_or c (20 * s + generationMessagesAt + x) 0 ≡ get_or a (suc (20 * s + generationMessagesAt) + x) 0
-    moved x w = get_or-set_other b (20 * s + generationNewestAt) (20 * s + generationMessagesAt + x) number 0 (λ q. omega arith) ∙ m.here (20 * s + generationMessagesAt + x) (omega arith) (omega arith)
+    moved : (x : ℕ) → x < 19 → get_or c (20 * s + generation_messages_at + x) 0 ≡ get_or a (suc (20 * s + generation_messages_at) + x) 0
+    moved x w = get_or-set_other b (20 * s + generation_newest_at) (20 * s + generation_messages_at + x) number 0 (λ q. omega arith) ∙ m.here (20 * s + generation_messages_at + x) (omega arith) (omega arith)
         ∙ ap (λ (j : ℕ). get_or a j 0) (omega arith)
 
-    messages : upto (λ j. get_or c j 0) (20 * s + generationMessagesAt) 20 ≡ oneMore number (generationsOf (venueOf a) s)
+    messages : upto (λ j. get_or c j 0) (20 * s + generation_messages_at) 20 ≡ one_more number (generations_of (venue_of a) s)
     messages =
-        upto_from (λ j. get_or c j 0) (20 * s + generationMessagesAt) 19
-        ∙ ap₂ (λ (l : List ℕ) (x : ℕ). l ++ (x ∷ [])) (upto-along (λ j. get_or c j 0) (λ j. get_or a j 0) (20 * s + generationMessagesAt) (suc (20 * s + generationMessagesAt)) 19 moved) last
-        ∙ sym (ap (λ (g : Generations). oneMore number g.messages) (generations-at a s h))
+        upto_from (λ j. get_or c j 0) (20 * s + generation_messages_at) 19
+        ∙ ap₂ (λ (l : List ℕ) (x : ℕ). l ++ (x ∷ [])) (upto-along (λ j. get_or c j 0) (λ j. get_or a j 0) (20 * s + generation_messages_at) (suc (20 * s + generation_messages_at)) 19 moved) last
+        ∙ sym (ap (λ (g : Generations). one_more number g.messages) (generations-at a s h))
 
-pub count-generation : (s number first last k : ℕ) (a b : List ℕ) → s < 8 → first ≡ 20 * s + generationMessagesAt → last ≡ 20 * s + generationNewestAt → k ≡ last → Written (after a) first k a b →
-    (venueOf (set b last number) ≡ counted number s (venueOf a)) × SameCounts a (set b last number)
+pub count-generation : (s number first last k : ℕ) (a b : List ℕ) → s < 8 → first ≡ 20 * s + generation_messages_at → last ≡ 20 * s + generation_newest_at → k ≡ last → Written (after a) first k a b →
+    (venue_of (set b last number) ≡ counted number s (venue_of a)) × SameCounts a (set b last number)
 count-generation s number first last k a b h p q e m = rw q (count-here s number k a b h (e ∙ q) (rw p at m))

@@ -1,16 +1,16 @@
 // Changes of the venue inside a call: each function writes into the numbers of its slice (places' specs/Layout.antt).
 ghost use Rattle.std.specs.Prelude.{◌≡◌, suc, min, ◌+◌, ◌-◌, ◌*◌, ◌^◌, ◌≤◌, ◌<◌, length, get_or, set};
 ghost use Rattle.std.proofs.lemmas.List.Edits.{sets};
-ghost use Rattle.rules.specs.Words.{placeOf, withSeries, withEditions, withGenerations, with_last, withReached};
-ghost use Rattle.rules.specs.Trading.{fillRegular, fillComplex, putRegular, putComplex};
+ghost use Rattle.rules.specs.Words.{place_of, with_series, with_editions, with_generations, with_last, with_reached};
+ghost use Rattle.rules.specs.Trading.{fill_regular, fill_complex, put_regular, put_complex};
 ghost use Rattle.rules.specs.Generation.{placed, counted};
-ghost use Rattle.rules.specs.Places.{holdsRegular, holdsComplex};
-ghost use Rattle.rules.specs.Standing.{showAgain};
-ghost use Rattle.places.specs.Layout.{size, regularsUsed, complexesUsed, regularIn, complexIn, venueOf, regularPut, limitNumber, complexRow, editionRow, ComplexBounded, bit_of};
+ghost use Rattle.rules.specs.Places.{holds_regular, holds_complex};
+ghost use Rattle.rules.specs.Standing.{show_again};
+ghost use Rattle.places.specs.Layout.{size, regulars_used, complexes_used, regular_in, complex_in, venue_of, regular_put, limit_number, complex_row, edition_row, ComplexBounded, bit_of};
 ghost use Rattle.places.specs.Layout.{FiguresBase, FigureSet, FiguresCounted};
 ghost use Rattle.places.specs.Layout.{Beside, SameBeside, LevelPut, Counts, SameCounts};
 ghost use Rattle.places.specs.Layout.{Filled, RegularsClosed, ComplexesClosed, GapsClosed};
-ghost use Rattle.places.specs.Offsets.{complexIdAt, editionNumberAt};
+ghost use Rattle.places.specs.Offsets.{complex_id_at, edition_number_at};
 ghost use Rattle.places.specs.Requirements.{RightNumbers, MarkedNumbers, SeriesReady, PlaceReady, RegularReady, ComplexReady, CountedRegulars};
 ghost use Rattle.places.specs.Requirements.{CountedComplexes, RegularRoom, ComplexRoom, EditionRoom};
 
@@ -42,7 +42,7 @@ fn lower(numbers: &mut [u32], at: usize, i: usize)
 // The order at place i is filled for k contracts. The levels stay as they are. What is left of an order with reserve has to show again.
 pub fn fill_regular(numbers: &mut [u32], i: usize, k: u32)
     requires { RegularReady numbers.old i }
-    ensures numbers_after { venueOf numbers.new ≡ fillRegular i k (venueOf numbers.old) }
+    ensures numbers_after { venue_of numbers.new ≡ fill_regular i k (venue_of numbers.old) }
     ensures beside { SameBeside numbers.old numbers.new }
 {
     let q = numbers[4 * i + places::REGULAR_QUANTITY_AT];
@@ -60,7 +60,7 @@ pub fn fill_regular(numbers: &mut [u32], i: usize, k: u32)
 // The complex order at place i is filled for k units.
 pub fn fill_complex(numbers: &mut [u32], i: usize, k: u32)
     requires { ComplexReady numbers.old i }
-    ensures numbers_after { venueOf numbers.new ≡ fillComplex i k (venueOf numbers.old) }
+    ensures numbers_after { venue_of numbers.new ≡ fill_complex i k (venue_of numbers.old) }
     ensures counts { SameCounts numbers.old numbers.new }
 {
     let q = numbers[6 * i + places::COMPLEX_QUANTITY_AT];
@@ -73,7 +73,7 @@ pub fn fill_complex(numbers: &mut [u32], i: usize, k: u32)
 
 // The number of a series and side: its legging place.
 fn place_number(series: u8, side: u8) -> u32
-    ensures { result ≡ placeOf series side }
+    ensures { result ≡ place_of series side }
 {
     2 * (series as u32) + (side as u32)
 }
@@ -81,7 +81,7 @@ fn place_number(series: u8, side: u8) -> u32
 // Writes an order's numbers at place i.
 pub fn write_regular(numbers: &mut [u32], i: usize, o: Regular)
     requires { PlaceReady numbers.old i 128 }
-    ensures { numbers.new ≡ regularPut numbers.old i o }
+    ensures { numbers.new ≡ regular_put numbers.old i o }
 {
     let place = place_number(o.series, o.side);
     numbers[4 * i] = o.id;
@@ -95,8 +95,8 @@ pub fn write_regular(numbers: &mut [u32], i: usize, o: Regular)
 // Puts an order into the place after those in use. The levels stay as they are.
 pub fn add_regular(numbers: &mut [u32], o: Regular)
     requires { RegularRoom numbers.old o }
-    ensures numbers_after { venueOf numbers.new ≡ putRegular (regularsUsed numbers.old) o (venueOf numbers.old) }
-    ensures beside { Beside (suc (regularsUsed numbers.old)) (complexesUsed numbers.old) numbers.old numbers.new }
+    ensures numbers_after { venue_of numbers.new ≡ put_regular (regulars_used numbers.old) o (venue_of numbers.old) }
+    ensures beside { Beside (suc (regulars_used numbers.old)) (complexes_used numbers.old) numbers.old numbers.new }
 {
     let n = places::regulars_used(numbers);
     write_regular(numbers, n, o);
@@ -107,7 +107,7 @@ pub fn add_regular(numbers: &mut [u32], o: Regular)
 // Each order shows again: all of it but its shown quantity becomes reserve. The levels stay as they are.
 pub fn show_again(numbers: &mut [u32])
     requires { length numbers.old ≡ size }
-    ensures numbers_after { venueOf numbers.new ≡ showAgain (venueOf numbers.old) }
+    ensures numbers_after { venue_of numbers.new ≡ show_again (venue_of numbers.old) }
     ensures beside { SameBeside numbers.old numbers.new }
 {
     let n = places::regulars_used(numbers);
@@ -122,7 +122,7 @@ pub fn show_again(numbers: &mut [u32])
 
 // A limit as the numbers keep it: 2^31 above its value.
 fn limit_number(x: i32) -> u32
-    ensures { result ≡ limitNumber x }
+    ensures { result ≡ limit_number x }
 {
     ((x as i64) + 2147483648) as u32
 }
@@ -130,7 +130,7 @@ fn limit_number(x: i32) -> u32
 // Writes a complex order's numbers at place i.
 pub fn write_complex(numbers: &mut [u32], i: usize, c: Complex)
     requires { PlaceReady numbers.old i 32 }
-    ensures { (numbers.new ≡ sets numbers.old (6 * i + complexIdAt) (complexRow c)) × ComplexBounded c }
+    ensures { (numbers.new ≡ sets numbers.old (6 * i + complex_id_at) (complex_row c)) × ComplexBounded c }
 {
     let one = place_number(c.series1, c.side1);
     let two = place_number(c.series2, c.side2);
@@ -146,8 +146,8 @@ pub fn write_complex(numbers: &mut [u32], i: usize, c: Complex)
 // Puts a complex order into the place after those in use.
 pub fn add_complex(numbers: &mut [u32], c: Complex)
     requires { ComplexRoom numbers.old c }
-    ensures numbers_after { venueOf numbers.new ≡ putComplex (complexesUsed numbers.old) c (venueOf numbers.old) }
-    ensures counts { Counts (regularsUsed numbers.old) (suc (complexesUsed numbers.old)) numbers.old numbers.new }
+    ensures numbers_after { venue_of numbers.new ≡ put_complex (complexes_used numbers.old) c (venue_of numbers.old) }
+    ensures counts { Counts (regulars_used numbers.old) (suc (complexes_used numbers.old)) numbers.old numbers.new }
 {
     let n = places::complexes_used(numbers);
     write_complex(numbers, n, c);
@@ -169,7 +169,7 @@ fn weight(n: usize, l: Legging) -> u32
 // Writes a legging order at a place, and the mask.
 pub fn put_legging(numbers: &mut [u32], n: usize, l: Legging)
     requires { PlaceReady numbers.old n 16 }
-    ensures numbers_after { venueOf numbers.new ≡ placed n l (venueOf numbers.old) }
+    ensures numbers_after { venue_of numbers.new ≡ placed n l (venue_of numbers.old) }
     ensures counts { SameCounts numbers.old numbers.new }
 {
     let old = places::legging_at(numbers, n);
@@ -183,7 +183,7 @@ pub fn put_legging(numbers: &mut [u32], n: usize, l: Legging)
 // Writes a series' status and away prices.
 pub fn put_listed(numbers: &mut [u32], s: usize, x: Listed)
     requires { SeriesReady numbers.old s }
-    ensures numbers_after { venueOf numbers.new ≡ withSeries (venueOf numbers.old) (set (venueOf numbers.old).series s x) }
+    ensures numbers_after { venue_of numbers.new ≡ with_series (venue_of numbers.old) (set (venue_of numbers.old).series s x) }
     ensures counts { SameCounts numbers.old numbers.new }
 {
     numbers[3 * s + places::SERIES_STATUS_AT] = x.status as u32;
@@ -194,7 +194,7 @@ pub fn put_listed(numbers: &mut [u32], s: usize, x: Listed)
 // Writes an edition's numbers at place i. The figures stay as they are.
 pub fn write_edition(numbers: &mut [u32], i: usize, e: Edition)
     requires { PlaceReady numbers.old i 32 }
-    ensures { (numbers.new ≡ sets numbers.old (4 * i + editionNumberAt) (editionRow e)) × (e.figure < 256) × (e.value < 256) }
+    ensures { (numbers.new ≡ sets numbers.old (4 * i + edition_number_at) (edition_row e)) × (e.figure < 256) × (e.value < 256) }
 {
     numbers[4 * i + places::EDITION_NUMBER_AT] = e.edition;
     numbers[4 * i + places::EDITION_MESSAGE_AT] = e.message;
@@ -247,7 +247,7 @@ pub fn count_figures(numbers: &mut [u32])
 // Writes an edition at a free place, and computes the figures again.
 pub fn put_edition(numbers: &mut [u32], i: usize, e: Edition)
     requires { EditionRoom numbers.old i e }
-    ensures numbers_after { venueOf numbers.new ≡ withEditions (venueOf numbers.old) (set (venueOf numbers.old).editions i e) }
+    ensures numbers_after { venue_of numbers.new ≡ with_editions (venue_of numbers.old) (set (venue_of numbers.old).editions i e) }
     ensures counts { SameCounts numbers.old numbers.new }
 {
     write_edition(numbers, i, e);
@@ -257,7 +257,7 @@ pub fn put_edition(numbers: &mut [u32], i: usize, e: Edition)
 // Writes the last id accepted.
 pub fn put_last(numbers: &mut [u32], id: u32)
     requires { length numbers.old ≡ size }
-    ensures numbers_after { venueOf numbers.new ≡ with_last (venueOf numbers.old) id }
+    ensures numbers_after { venue_of numbers.new ≡ with_last (venue_of numbers.old) id }
     ensures counts { SameCounts numbers.old numbers.new }
 {
     numbers[places::LAST_ID_AT] = id;
@@ -266,7 +266,7 @@ pub fn put_last(numbers: &mut [u32], id: u32)
 // Writes a series' generations.
 pub fn put_generations(numbers: &mut [u32], s: usize, g: Generations)
     requires { SeriesReady numbers.old s }
-    ensures numbers_after { venueOf numbers.new ≡ withGenerations (venueOf numbers.old) (set (venueOf numbers.old).generations s g) }
+    ensures numbers_after { venue_of numbers.new ≡ with_generations (venue_of numbers.old) (set (venue_of numbers.old).generations s g) }
     ensures counts { SameCounts numbers.old numbers.new }
 {
     let messages = g.messages;
@@ -280,7 +280,7 @@ pub fn put_generations(numbers: &mut [u32], s: usize, g: Generations)
 // Adds a generation of a series, by the message of this number; the oldest goes.
 pub fn count_generation(numbers: &mut [u32], s: usize, number: u32)
     requires { SeriesReady numbers.old s }
-    ensures numbers_after { venueOf numbers.new ≡ counted number s (venueOf numbers.old) }
+    ensures numbers_after { venue_of numbers.new ≡ counted number s (venue_of numbers.old) }
     ensures counts { SameCounts numbers.old numbers.new }
 {
     let first = 20 * s + places::GENERATION_MESSAGES_AT;
@@ -296,7 +296,7 @@ pub fn count_generation(numbers: &mut [u32], s: usize, number: u32)
 // Writes the last id that a limited sweep looked at.
 pub fn put_reached(numbers: &mut [u32], id: u32)
     requires { length numbers.old ≡ size }
-    ensures numbers_after { venueOf numbers.new ≡ withReached (venueOf numbers.old) id }
+    ensures numbers_after { venue_of numbers.new ≡ with_reached (venue_of numbers.old) id }
     ensures counts { SameCounts numbers.old numbers.new }
 {
     numbers[places::ID_REACHED_AT] = id;
@@ -305,7 +305,7 @@ pub fn put_reached(numbers: &mut [u32], id: u32)
 // How many of n regular places come before the first free one. The scan skips the places known to be held.
 fn held_regulars(numbers: &[u32], n: usize) -> usize
     requires { CountedRegulars numbers.now n }
-    ensures { (result ≤ n) × Filled holdsRegular (regularIn numbers.now) result }
+    ensures { (result ≤ n) × Filled holds_regular (regular_in numbers.now) result }
 {
     let mut i = places::at_most(places::wide(numbers[places::REGULARS_KNOWN_AT]), n);
     while i < n {
@@ -345,7 +345,7 @@ pub fn close_regulars(numbers: &mut [u32])
 // How many of n complex places come before the first free one. The scan skips the places known to be held.
 fn held_complexes(numbers: &[u32], n: usize) -> usize
     requires { CountedComplexes numbers.now n }
-    ensures { (result ≤ n) × Filled holdsComplex (complexIn numbers.now) result }
+    ensures { (result ≤ n) × Filled holds_complex (complex_in numbers.now) result }
 {
     let mut i = places::at_most(places::wide(numbers[places::COMPLEXES_KNOWN_AT]), n);
     while i < n {

@@ -11,7 +11,7 @@ use lib.Signed.{non_neg}
 use mir.Val.{Fits, SFits, to_z, of_z}
 use mir.ValLaws.{to_z-of_z}
 use Rattle.rules.proofs.Machine.{cast-of}
-use Rattle.places.specs.Layout.{limitNumber}
+use Rattle.places.specs.Layout.{limit_number}
 
 fits32-if : (x : ℕ) (t : Bool) → ltb x 2147483648 ≡ t → x < 4294967296 → SFits w32 (cond t (negsuc (2147483648 - suc x)) (pos (x - 2147483648)))
 fits32-if x true e h = let z = ltb-true x 2147483648 e in record { sfits = omega arith }
@@ -85,13 +85,13 @@ module _ {z : ℤ} (f : SFits w32 z) where
   number_fits = let h = (above z f).small in rw number-sum (tt, record { fits = omega arith })
 
   -- the number that is kept
-  number_of : limitNumber z ≡ (above z f).number
-  unfolding limitNumber
+  number_of : limit_number z ≡ (above z f).number
+  unfolding limit_number
   number_of = ap nat_abs (above z f).is
 
-  pub number_is : nat_abs (to_z w64 (of_z w64 (to_z w64 (of_z w64 (to_z w32 (of_z w32 z))) +ℤ pos 2147483648))) ≡ limitNumber z
+  pub number_is : nat_abs (to_z w64 (of_z w64 (to_z w64 (of_z w64 (to_z w32 (of_z w32 z))) +ℤ pos 2147483648))) ≡ limit_number z
   number_is = ap nat_abs number-sum ∙ sym number_of
 
   -- it reads back as the limit
-  pub limit-back : pos (limitNumber z) -ℤ pos 2147483648 ≡ z
+  pub limit-back : pos (limit_number z) -ℤ pos 2147483648 ≡ z
   limit-back = ap (λ (n : ℕ). pos n -ℤ pos 2147483648) number_of ∙ ap (λ (y : ℤ). y -ℤ pos 2147483648) (sym (above z f).is) ∙ +ℤ-neg_ℤ_cancel z (pos 2147483648)

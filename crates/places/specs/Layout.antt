@@ -30,18 +30,18 @@ use Rattle.rules.specs.declared.Edition.{Edition}
 use Rattle.rules.specs.declared.Generations.{Generations}
 use Rattle.rules.specs.declared.Venue.{Venue}
 use Rattle.places.specs.declared.Level.{Level}
-use Rattle.rules.specs.Words.{opposite, placeOf, noRegular, noComplex, withRegular, withComplex, withEditions}
+use Rattle.rules.specs.Words.{opposite, place_of, no_regular, no_complex, with_regular, with_complex, with_editions}
 use Rattle.rules.specs.Base.{if◌then◌else◌, held, keep}
-use Rattle.rules.specs.Settings.{baseFigure, sets, figureNow, increment}
-use Rattle.rules.specs.Prices.{bestIn, sizeIn}
-use Rattle.rules.specs.Places.{holdsRegular, holdsComplex, packed, closeGaps}
-use Rattle.rules.specs.Sound.{showsFully}
+use Rattle.rules.specs.Settings.{base_figure, sets, figure_now, increment}
+use Rattle.rules.specs.Prices.{best_in, size_in}
+use Rattle.rules.specs.Places.{holds_regular, holds_complex, packed, close_gaps}
+use Rattle.rules.specs.Sound.{shows_fully}
 use Rattle.rules.specs.Step.{mask}
-use Rattle.places.specs.Offsets.{regularKeyAt, regularPriceAt, regularQuantityAt, complexIdAt, complexLegsAt, complexRatiosAt, complexClassAt}
-use Rattle.places.specs.Offsets.{complexLimitAt, complexQuantityAt, leggingParentAt, leggingPriceAt, leggingQuantityAt, seriesStatusAt}
-use Rattle.places.specs.Offsets.{seriesBidAt, seriesOfferAt, regularsUsedAt, complexesUsedAt, lastIdAt, levelPriceAt, levelLowAt, levelHighAt}
-use Rattle.places.specs.Offsets.{regularsKnownAt, complexesKnownAt, leggingMaskAt, editionNumberAt, editionMessageAt, editionFigureAt}
-use Rattle.places.specs.Offsets.{editionValueAt, figuresAt, regularReserveAt, regularDisplayAt, showAgainAt, generationMessagesAt, idReachedAt}
+use Rattle.places.specs.Offsets.{regular_key_at, regular_price_at, regular_quantity_at, complex_id_at, complex_legs_at, complex_ratios_at, complex_class_at}
+use Rattle.places.specs.Offsets.{complex_limit_at, complex_quantity_at, legging_parent_at, legging_price_at, legging_quantity_at, series_status_at}
+use Rattle.places.specs.Offsets.{series_bid_at, series_offer_at, regulars_used_at, complexes_used_at, last_id_at, level_price_at, level_low_at, level_high_at}
+use Rattle.places.specs.Offsets.{regulars_known_at, complexes_known_at, legging_mask_at, edition_number_at, edition_message_at, edition_figure_at}
+use Rattle.places.specs.Offsets.{edition_value_at, figures_at, regular_reserve_at, regular_display_at, show_again_at, generation_messages_at, id_reached_at}
 
 -- the slice's length
 abbrev pub size : ℕ
@@ -53,102 +53,102 @@ upto f i zero = []
 upto f i (suc k) = f i ∷ upto f (suc i) k
 
 -- the first `used` of `all` places, and free ones after them
-unfoldable pub inUse : {A : Type 0} → (ℕ → A) → A → (used all : ℕ) → List A
-inUse f none used all = upto f 0 used ++ replicate (all - used) none
+unfoldable pub in_use : {A : Type 0} → (ℕ → A) → A → (used all : ℕ) → List A
+in_use f none used all = upto f 0 used ++ replicate (all - used) none
 
 -- the places in use
-unfoldable pub regularsUsed : List ℕ → ℕ
-regularsUsed b = min (get_or b regularsUsedAt 0) 128
+unfoldable pub regulars_used : List ℕ → ℕ
+regulars_used b = min (get_or b regulars_used_at 0) 128
 
-unfoldable pub complexesUsed : List ℕ → ℕ
-complexesUsed b = min (get_or b complexesUsedAt 0) 32
+unfoldable pub complexes_used : List ℕ → ℕ
+complexes_used b = min (get_or b complexes_used_at 0) 32
 
 -- what stands at a place
-unfoldable pub regularIn : List ℕ → ℕ → Regular
-regularIn b i = record {
+unfoldable pub regular_in : List ℕ → ℕ → Regular
+regular_in b i = record {
   id = get_or b (4 * i) 0;
-  series = get_or b (4 * i + regularKeyAt) 0 % 16 / 2;
-  side = get_or b (4 * i + regularKeyAt) 0 % 2;
-  price = get_or b (4 * i + regularPriceAt) 0;
-  quantity = get_or b (4 * i + regularQuantityAt) 0;
-  display = min (get_or b (2 * i + regularDisplayAt) 0) (get_or b (4 * i + regularQuantityAt) 0);
-  reserve = min (get_or b (2 * i + regularReserveAt) 0) (get_or b (4 * i + regularQuantityAt) 0);
+  series = get_or b (4 * i + regular_key_at) 0 % 16 / 2;
+  side = get_or b (4 * i + regular_key_at) 0 % 2;
+  price = get_or b (4 * i + regular_price_at) 0;
+  quantity = get_or b (4 * i + regular_quantity_at) 0;
+  display = min (get_or b (2 * i + regular_display_at) 0) (get_or b (4 * i + regular_quantity_at) 0);
+  reserve = min (get_or b (2 * i + regular_reserve_at) 0) (get_or b (4 * i + regular_quantity_at) 0);
 }
 
-unfoldable pub complexIn : List ℕ → ℕ → Complex
-complexIn b i = record {
-  id = get_or b (6 * i + complexIdAt) 0;
-  series1 = get_or b (6 * i + complexLegsAt) 0 % 256 / 32;
-  side1 = get_or b (6 * i + complexLegsAt) 0 / 16 % 2;
-  series2 = get_or b (6 * i + complexLegsAt) 0 % 16 / 2;
-  side2 = get_or b (6 * i + complexLegsAt) 0 % 2;
-  class = get_or b (6 * i + complexClassAt) 0 % 256;
-  limit = pos (get_or b (6 * i + complexLimitAt) 0) -ℤ pos 2147483648;
-  quantity = get_or b (6 * i + complexQuantityAt) 0;
-  ratio1 = get_or b (6 * i + complexRatiosAt) 0 / 256 % 256;
-  ratio2 = get_or b (6 * i + complexRatiosAt) 0 % 256;
+unfoldable pub complex_in : List ℕ → ℕ → Complex
+complex_in b i = record {
+  id = get_or b (6 * i + complex_id_at) 0;
+  series1 = get_or b (6 * i + complex_legs_at) 0 % 256 / 32;
+  side1 = get_or b (6 * i + complex_legs_at) 0 / 16 % 2;
+  series2 = get_or b (6 * i + complex_legs_at) 0 % 16 / 2;
+  side2 = get_or b (6 * i + complex_legs_at) 0 % 2;
+  class = get_or b (6 * i + complex_class_at) 0 % 256;
+  limit = pos (get_or b (6 * i + complex_limit_at) 0) -ℤ pos 2147483648;
+  quantity = get_or b (6 * i + complex_quantity_at) 0;
+  ratio1 = get_or b (6 * i + complex_ratios_at) 0 / 256 % 256;
+  ratio2 = get_or b (6 * i + complex_ratios_at) 0 % 256;
 }
 
-unfoldable pub leggingIn : List ℕ → ℕ → Legging
-leggingIn b n = record { parent = get_or b (3 * n + leggingParentAt) 0; price = get_or b (3 * n + leggingPriceAt) 0; quantity = get_or b (3 * n + leggingQuantityAt) 0 }
+unfoldable pub legging_in : List ℕ → ℕ → Legging
+legging_in b n = record { parent = get_or b (3 * n + legging_parent_at) 0; price = get_or b (3 * n + legging_price_at) 0; quantity = get_or b (3 * n + legging_quantity_at) 0 }
 
-unfoldable pub listedIn : List ℕ → ℕ → Listed
-listedIn b s = record { status = get_or b (3 * s + seriesStatusAt) 0 % 256; bid = get_or b (3 * s + seriesBidAt) 0; offer = get_or b (3 * s + seriesOfferAt) 0 }
+unfoldable pub listed_in : List ℕ → ℕ → Listed
+listed_in b s = record { status = get_or b (3 * s + series_status_at) 0 % 256; bid = get_or b (3 * s + series_bid_at) 0; offer = get_or b (3 * s + series_offer_at) 0 }
 
-unfoldable pub editionIn : List ℕ → ℕ → Edition
-editionIn b i = record {
-  edition = get_or b (4 * i + editionNumberAt) 0;
-  message = get_or b (4 * i + editionMessageAt) 0;
-  figure = get_or b (4 * i + editionFigureAt) 0 % 256;
-  value = get_or b (4 * i + editionValueAt) 0 % 256;
+unfoldable pub edition_in : List ℕ → ℕ → Edition
+edition_in b i = record {
+  edition = get_or b (4 * i + edition_number_at) 0;
+  message = get_or b (4 * i + edition_message_at) 0;
+  figure = get_or b (4 * i + edition_figure_at) 0 % 256;
+  value = get_or b (4 * i + edition_value_at) 0 % 256;
 }
 
-unfoldable pub generationsIn : List ℕ → (series : ℕ) → Generations
-generationsIn b s = record { messages = upto (λ k. get_or b k 0) (20 * s + generationMessagesAt) 20 }
+unfoldable pub generations_in : List ℕ → (series : ℕ) → Generations
+generations_in b s = record { messages = upto (λ k. get_or b k 0) (20 * s + generation_messages_at) 20 }
 
 -- an order's series and side as one number, by which a scan skips other orders; and the legs of a complex order as one number
-unfoldable pub regularKey : Regular → ℕ
-regularKey o = placeOf o.series o.side
+unfoldable pub regular_key : Regular → ℕ
+regular_key o = place_of o.series o.side
 
-unfoldable pub legsKey : Complex → ℕ
-legsKey c = 16 * placeOf c.series1 c.side1 + placeOf c.series2 c.side2
+unfoldable pub legs_key : Complex → ℕ
+legs_key c = 16 * place_of c.series1 c.side1 + place_of c.series2 c.side2
 
 -- the ratios of a complex order as one number
-unfoldable pub ratiosNumber : Complex → ℕ
-ratiosNumber c = 256 * c.ratio1 + c.ratio2
+unfoldable pub ratios_number : Complex → ℕ
+ratios_number c = 256 * c.ratio1 + c.ratio2
 
 -- the legs and the ratios of a complex order as one number, by which the search for a cross skips other orders
-unfoldable pub crossKey : Complex → ℕ
-crossKey c = 256 * ratiosNumber c + legsKey c
+unfoldable pub cross_key : Complex → ℕ
+cross_key c = 256 * ratios_number c + legs_key c
 
--- the key (crossKey) of an order whose legs face one of series s at side d with ratio q and one of t at e with r
-unfoldable pub facingKey : (s d q t e r : ℕ) → ℕ
-facingKey s d q t e r = 256 * (256 * q + r) + (16 * placeOf s (opposite d) + placeOf t (opposite e))
+-- the key (cross_key) of an order whose legs face one of series s at side d with ratio q and one of t at e with r
+unfoldable pub facing_key : (s d q t e r : ℕ) → ℕ
+facing_key s d q t e r = 256 * (256 * q + r) + (16 * place_of s (opposite d) + place_of t (opposite e))
 
 -- the venue that the numbers stand for
-unfoldable pub venueOf : List ℕ → Venue
-venueOf b = record {
-  regular = inUse (regularIn b) noRegular (regularsUsed b) 128;
-  complex = inUse (complexIn b) noComplex (complexesUsed b) 32;
-  legging = upto (leggingIn b) 0 16;
-  series = upto (listedIn b) 0 8;
-  editions = upto (editionIn b) 0 32;
-  generations = upto (generationsIn b) 0 8;
-  last = get_or b lastIdAt 0;
-  reached = get_or b idReachedAt 0;
+unfoldable pub venue_of : List ℕ → Venue
+venue_of b = record {
+  regular = in_use (regular_in b) no_regular (regulars_used b) 128;
+  complex = in_use (complex_in b) no_complex (complexes_used b) 32;
+  legging = upto (legging_in b) 0 16;
+  series = upto (listed_in b) 0 8;
+  editions = upto (edition_in b) 0 32;
+  generations = upto (generations_in b) 0 8;
+  last = get_or b last_id_at 0;
+  reached = get_or b id_reached_at 0;
 }
 
 -- The numbers of a place ----------------------------------------------------------------------
 
 -- an order's; those of what it shows stand apart
-unfoldable pub regularRow : Regular → List ℕ
-regularRow o = o.id ∷ placeOf o.series o.side ∷ o.price ∷ o.quantity ∷ []
+unfoldable pub regular_row : Regular → List ℕ
+regular_row o = o.id ∷ place_of o.series o.side ∷ o.price ∷ o.quantity ∷ []
 
-unfoldable pub reserveRow : Regular → List ℕ
-reserveRow o = o.reserve ∷ o.display ∷ []
+unfoldable pub reserve_row : Regular → List ℕ
+reserve_row o = o.reserve ∷ o.display ∷ []
 
-abbrev pub regularPut : List ℕ → (i : ℕ) → Regular → List ℕ
-regularPut b i o = row (row b (4 * i) (regularRow o)) (2 * i + regularReserveAt) (reserveRow o)
+abbrev pub regular_put : List ℕ → (i : ℕ) → Regular → List ℕ
+regular_put b i o = row (row b (4 * i) (regular_row o)) (2 * i + regular_reserve_at) (reserve_row o)
 
 -- a reserve and a shown quantity that are kept whole
 pub record Bounded (o : Regular) : Type 0 where
@@ -156,20 +156,20 @@ pub record Bounded (o : Regular) : Type 0 where
   pub reserve : o.reserve ≤ o.quantity
 
 -- a limit's number: 2^31 above its value
-unfoldable pub limitNumber : ℤ → ℕ
-limitNumber z = nat_abs (z +ℤ pos 2147483648)
+unfoldable pub limit_number : ℤ → ℕ
+limit_number z = nat_abs (z +ℤ pos 2147483648)
 
-unfoldable pub complexRow : Complex → List ℕ
-complexRow c = c.id ∷ legsKey c ∷ ratiosNumber c ∷ c.class ∷ limitNumber c.limit ∷ c.quantity ∷ []
+unfoldable pub complex_row : Complex → List ℕ
+complex_row c = c.id ∷ legs_key c ∷ ratios_number c ∷ c.class ∷ limit_number c.limit ∷ c.quantity ∷ []
 
 -- an edition's
-unfoldable pub editionRow : Edition → List ℕ
-editionRow e = e.edition ∷ e.message ∷ e.figure ∷ e.value ∷ []
+unfoldable pub edition_row : Edition → List ℕ
+edition_row e = e.edition ∷ e.message ∷ e.figure ∷ e.value ∷ []
 
 -- a class, a limit and ratios that are kept whole
 pub record ComplexBounded (c : Complex) : Type 0 where
   pub class : c.class < 256
-  pub limit : pos (limitNumber c.limit) -ℤ pos 2147483648 ≡ c.limit
+  pub limit : pos (limit_number c.limit) -ℤ pos 2147483648 ≡ c.limit
   pub ratio1 : c.ratio1 < 256
   pub ratio2 : c.ratio2 < 256
 
@@ -182,56 +182,56 @@ Filled holds f n = (k : ℕ) → k < n → holds (f k) ≡ true
 -- Levels: the best regular price of a series and side, and its total size --------------------
 
 -- over a list of orders
-unfoldable pub levelOf : (series side : ℕ) → List Regular → Level
-levelOf s d os = record { price = bestIn s d os; size = sizeIn s d (bestIn s d os) os }
+unfoldable pub level_of : (series side : ℕ) → List Regular → Level
+level_of s d os = record { price = best_in s d os; size = size_in s d (best_in s d os) os }
 
 -- the one that is kept; n is the legging place of series and side
-unfoldable pub levelIn : List ℕ → (n : ℕ) → Level
-levelIn b n = record { price = get_or b (3 * n + levelPriceAt) 0; size = get_or b (3 * n + levelLowAt) 0 + 4294967296 * get_or b (3 * n + levelHighAt) 0 }
+unfoldable pub level_in : List ℕ → (n : ℕ) → Level
+level_in b n = record { price = get_or b (3 * n + level_price_at) 0; size = get_or b (3 * n + level_low_at) 0 + 4294967296 * get_or b (3 * n + level_high_at) 0 }
 
 -- Figures: the increments and the percentage in force -----------------------------------------
 
 -- the one that is kept
-unfoldable pub figureIn : List ℕ → (figure : ℕ) → ℕ
-figureIn b f = get_or b (2 * f + figuresAt) 0 % 256
+unfoldable pub figure_in : List ℕ → (figure : ℕ) → ℕ
+figure_in b f = get_or b (2 * f + figures_at) 0 % 256
 
 -- they are those in force, and no increment is 0
 pub record Figured (b : List ℕ) : Type 0 where
-  pub so : (f : ℕ) → f < 9 → figureIn b f ≡ figureNow (venueOf b) f
-  pub some : (s : ℕ) → s < 8 → 0 < figureIn b s
+  pub so : (f : ℕ) → f < 9 → figure_in b f ≡ figure_now (venue_of b) f
+  pub some : (s : ℕ) → s < 8 → 0 < figure_in b s
 
 -- from a to b the figures become those of edition 0, an edition's value becomes its figure's, or they become those in force; nothing else changes
 pub record FiguresBase (a b : List ℕ) : Type 0 where
-  pub others : (k : ℕ) → (k < figuresAt) ⊎ (regularReserveAt ≤ k) → get_or b k 0 ≡ get_or a k 0
-  pub figures : (f : ℕ) → f < 9 → figureIn b f ≡ baseFigure f
+  pub others : (k : ℕ) → (k < figures_at) ⊎ (regular_reserve_at ≤ k) → get_or b k 0 ≡ get_or a k 0
+  pub figures : (f : ℕ) → f < 9 → figure_in b f ≡ base_figure f
 
 pub record FigureSet (e : Edition) (a b : List ℕ) : Type 0 where
-  pub others : (k : ℕ) → (k < figuresAt) ⊎ (regularReserveAt ≤ k) → get_or b k 0 ≡ get_or a k 0
-  pub figures : (f : ℕ) → f < 9 → figureIn b f ≡ (if sets f e then e.value else figureIn a f)
+  pub others : (k : ℕ) → (k < figures_at) ⊎ (regular_reserve_at ≤ k) → get_or b k 0 ≡ get_or a k 0
+  pub figures : (f : ℕ) → f < 9 → figure_in b f ≡ (if sets f e then e.value else figure_in a f)
 
 pub record FiguresCounted (a b : List ℕ) : Type 0 where
-  pub others : (k : ℕ) → (k < figuresAt) ⊎ (regularReserveAt ≤ k) → get_or b k 0 ≡ get_or a k 0
-  pub figures : (f : ℕ) → f < 9 → figureIn b f ≡ figureNow (venueOf b) f
+  pub others : (k : ℕ) → (k < figures_at) ⊎ (regular_reserve_at ≤ k) → get_or b k 0 ≡ get_or a k 0
+  pub figures : (f : ℕ) → f < 9 → figure_in b f ≡ figure_now (venue_of b) f
 
 -- What is kept beside the venue ---------------------------------------------------------------
 
 -- every order that rests has a price, a shown quantity, and an id above those of the orders at places before it
 pub record Orderly (os : List Regular) : Type 0 where
-  pub priced : (i : ℕ) → held (get_or os i noRegular).quantity ≡ true → held (get_or os i noRegular).price ≡ true
-  pub displays : (i : ℕ) → held (get_or os i noRegular).quantity ≡ true → held (get_or os i noRegular).display ≡ true
-  pub rises : (i j : ℕ) → i < j → held (get_or os i noRegular).quantity ≡ true → held (get_or os j noRegular).quantity ≡ true → (get_or os i noRegular).id < (get_or os j noRegular).id
+  pub priced : (i : ℕ) → held (get_or os i no_regular).quantity ≡ true → held (get_or os i no_regular).price ≡ true
+  pub displays : (i : ℕ) → held (get_or os i no_regular).quantity ≡ true → held (get_or os i no_regular).display ≡ true
+  pub rises : (i j : ℕ) → i < j → held (get_or os i no_regular).quantity ≡ true → held (get_or os j no_regular).quantity ≡ true → (get_or os i no_regular).id < (get_or os j no_regular).id
 
 -- every order shows what it should
 abbrev pub Fully : List Regular → Type 0
-Fully os = (i : ℕ) → showsFully (get_or os i noRegular) ≡ true
+Fully os = (i : ℕ) → shows_fully (get_or os i no_regular) ≡ true
 
 -- the show-again flag is 0: no order has to show again
-unfoldable pub noneShowsAgain : List ℕ → Bool
-noneShowsAgain b = eqb (get_or b showAgainAt 0) 0
+unfoldable pub none_shows_again : List ℕ → Bool
+none_shows_again b = eqb (get_or b show_again_at 0) 0
 
 -- the ids of the orders that rest are below this one
 abbrev pub Below : (id : ℕ) → List Regular → Type 0
-Below id os = (i : ℕ) → held (get_or os i noRegular).quantity ≡ true → (get_or os i noRegular).id < id
+Below id os = (i : ℕ) → held (get_or os i no_regular).quantity ≡ true → (get_or os i no_regular).id < id
 
 -- 1 where a legging place is filled
 unfoldable pub bit_of : Legging → ℕ
@@ -240,84 +240,84 @@ bit_of l = if held l.quantity then 1 else 0
 -- what is known of the places: those known to be held are held, and the mask is that of the legging places; the figures are those in force; and where
 -- the show-again flag is 0 every order shows what it should
 pub record Marked (b : List ℕ) : Type 0 where
-  pub regulars : Filled holdsRegular (regularIn b) (min (get_or b regularsKnownAt 0) (regularsUsed b))
-  pub complexes : Filled holdsComplex (complexIn b) (min (get_or b complexesKnownAt 0) (complexesUsed b))
-  pub legging : get_or b leggingMaskAt 0 ≡ mask (venueOf b).legging
+  pub regulars : Filled holds_regular (regular_in b) (min (get_or b regulars_known_at 0) (regulars_used b))
+  pub complexes : Filled holds_complex (complex_in b) (min (get_or b complexes_known_at 0) (complexes_used b))
+  pub legging : get_or b legging_mask_at 0 ≡ mask (venue_of b).legging
   pub figures : Figured b
-  pub shows : noneShowsAgain b ≡ true → Fully (venueOf b).regular
+  pub shows : none_shows_again b ≡ true → Fully (venue_of b).regular
 
 -- and the levels are those of the regular orders, which are in order
 pub record Right (b : List ℕ) : Type 0 where
-  pub levels : (s d : ℕ) → s < 8 → d < 2 → levelIn b (placeOf s d) ≡ levelOf s d (venueOf b).regular
-  pub orders : Orderly (venueOf b).regular
+  pub levels : (s d : ℕ) → s < 8 → d < 2 → level_in b (place_of s d) ≡ level_of s d (venue_of b).regular
+  pub orders : Orderly (venue_of b).regular
   pub marked : Marked b
 
 -- from a to b the levels stay as they are, and r regular and c complex places are in use
 pub record Beside (r c : ℕ) (a b : List ℕ) : Type 0 where
-  pub regulars : regularsUsed b ≡ r
-  pub complexes : complexesUsed b ≡ c
-  pub levels : (n : ℕ) → n < 16 → levelIn b n ≡ levelIn a n
+  pub regulars : regulars_used b ≡ r
+  pub complexes : complexes_used b ≡ c
+  pub levels : (n : ℕ) → n < 16 → level_in b n ≡ level_in a n
   pub marked : Marked a → Marked b
 
 -- as many as before
 abbrev pub SameBeside : (a b : List ℕ) → Type 0
-SameBeside a b = Beside (regularsUsed a) (complexesUsed a) a b
+SameBeside a b = Beside (regulars_used a) (complexes_used a) a b
 
 -- from a to b the level at n becomes l, and nothing else changes
 pub record LevelPut (n : ℕ) (l : Level) (a b : List ℕ) : Type 0 where
-  pub venue : venueOf b ≡ venueOf a
-  pub regulars : regularsUsed b ≡ regularsUsed a
-  pub complexes : complexesUsed b ≡ complexesUsed a
-  pub here : levelIn b n ≡ l
-  pub others : (m : ℕ) → m < 16 → (m ≡ n → ⊥) → levelIn b m ≡ levelIn a m
+  pub venue : venue_of b ≡ venue_of a
+  pub regulars : regulars_used b ≡ regulars_used a
+  pub complexes : complexes_used b ≡ complexes_used a
+  pub here : level_in b n ≡ l
+  pub others : (m : ℕ) → m < 16 → (m ≡ n → ⊥) → level_in b m ≡ level_in a m
   pub marked : Marked a → Marked b
 
 -- from a to b what is kept stays right, and r regular and c complex places are in use
 pub record Counts (r c : ℕ) (a b : List ℕ) : Type 0 where
-  pub regulars : regularsUsed b ≡ r
-  pub complexes : complexesUsed b ≡ c
+  pub regulars : regulars_used b ≡ r
+  pub complexes : complexes_used b ≡ c
   pub right : Right a → Right b
 
 -- as many as before
 abbrev pub SameCounts : (a b : List ℕ) → Type 0
-SameCounts a b = Counts (regularsUsed a) (complexesUsed a) a b
+SameCounts a b = Counts (regulars_used a) (complexes_used a) a b
 
 -- Gaps ----------------------------------------------------------------------------------------
 
 -- every place in use is held, and what is kept beside the venue is right
 pub record Dense (b : List ℕ) : Type 0 where
-  pub regulars : Filled holdsRegular (regularIn b) (regularsUsed b)
-  pub complexes : Filled holdsComplex (complexIn b) (complexesUsed b)
+  pub regulars : Filled holds_regular (regular_in b) (regulars_used b)
+  pub complexes : Filled holds_complex (complex_in b) (complexes_used b)
   pub right : Right b
 
 -- one book's gaps closed
-unfoldable pub closeRegulars : Venue → Venue
-closeRegulars v = withRegular v (packed holdsRegular noRegular v.regular)
+unfoldable pub close_regulars : Venue → Venue
+close_regulars v = with_regular v (packed holds_regular no_regular v.regular)
 
-unfoldable pub closeComplexes : Venue → Venue
-closeComplexes v = withComplex v (packed holdsComplex noComplex v.complex)
+unfoldable pub close_complexes : Venue → Venue
+close_complexes v = with_complex v (packed holds_complex no_complex v.complex)
 
 -- the places that a book's closing leaves in use
-abbrev pub regularsHeld : List ℕ → ℕ
-regularsHeld b = length (keep holdsRegular (venueOf b).regular)
+abbrev pub regulars_held : List ℕ → ℕ
+regulars_held b = length (keep holds_regular (venue_of b).regular)
 
-abbrev pub complexesHeld : List ℕ → ℕ
-complexesHeld b = length (keep holdsComplex (venueOf b).complex)
+abbrev pub complexes_held : List ℕ → ℕ
+complexes_held b = length (keep holds_complex (venue_of b).complex)
 
 -- from a to b the gaps of one book, or of both, are closed
 pub record RegularsClosed (a b : List ℕ) : Type 0 where
-  pub venue : venueOf b ≡ closeRegulars (venueOf a)
-  pub counts : Counts (regularsHeld a) (complexesUsed a) a b
-  pub filled : Filled holdsRegular (regularIn b) (regularsUsed b)
+  pub venue : venue_of b ≡ close_regulars (venue_of a)
+  pub counts : Counts (regulars_held a) (complexes_used a) a b
+  pub filled : Filled holds_regular (regular_in b) (regulars_used b)
 
 pub record ComplexesClosed (a b : List ℕ) : Type 0 where
-  pub venue : venueOf b ≡ closeComplexes (venueOf a)
-  pub counts : Counts (regularsUsed a) (complexesHeld a) a b
-  pub filled : Filled holdsComplex (complexIn b) (complexesUsed b)
+  pub venue : venue_of b ≡ close_complexes (venue_of a)
+  pub counts : Counts (regulars_used a) (complexes_held a) a b
+  pub filled : Filled holds_complex (complex_in b) (complexes_used b)
 
 pub record GapsClosed (a b : List ℕ) : Type 0 where
-  pub venue : venueOf b ≡ closeGaps (venueOf a)
-  pub counts : Counts (regularsHeld a) (complexesHeld a) a b
+  pub venue : venue_of b ≡ close_gaps (venue_of a)
+  pub counts : Counts (regulars_held a) (complexes_held a) a b
   pub dense : Dense b
 
 -- A venue's places, loaded --------------------------------------------------------------------
@@ -329,37 +329,37 @@ pub record OnSide (s d : ℕ) : Type 0 where
 
 -- from a to b one book becomes l, and is dense
 pub record RegularsLoaded (a : List ℕ) (l : List Regular) (b : List ℕ) : Type 0 where
-  pub venue : venueOf b ≡ withRegular (venueOf a) l
-  pub complexes : complexesUsed b ≡ complexesUsed a
-  pub filled : Filled holdsRegular (regularIn b) (regularsUsed b)
+  pub venue : venue_of b ≡ with_regular (venue_of a) l
+  pub complexes : complexes_used b ≡ complexes_used a
+  pub filled : Filled holds_regular (regular_in b) (regulars_used b)
 
 pub record ComplexesLoaded (a : List ℕ) (l : List Complex) (b : List ℕ) : Type 0 where
-  pub venue : venueOf b ≡ withComplex (venueOf a) l
-  pub regulars : regularsUsed b ≡ regularsUsed a
-  pub filled : Filled holdsComplex (complexIn b) (complexesUsed b)
+  pub venue : venue_of b ≡ with_complex (venue_of a) l
+  pub regulars : regulars_used b ≡ regulars_used a
+  pub filled : Filled holds_complex (complex_in b) (complexes_used b)
 
 -- from a to b the editions become l
 pub record EditionsLoaded (a : List ℕ) (l : List Edition) (b : List ℕ) : Type 0 where
-  pub venue : venueOf b ≡ withEditions (venueOf a) l
-  pub regulars : regularsUsed b ≡ regularsUsed a
-  pub complexes : complexesUsed b ≡ complexesUsed a
+  pub venue : venue_of b ≡ with_editions (venue_of a) l
+  pub regulars : regulars_used b ≡ regulars_used a
+  pub complexes : complexes_used b ≡ complexes_used a
 
 -- from a to b mask and figures are counted, no place is known to be held, and the flag is 0; so what is known is right where no increment is 0
 -- and every order shows what it should
 pub record BesideCounted (a b : List ℕ) : Type 0 where
-  pub venue : venueOf b ≡ venueOf a
-  pub regulars : regularsUsed b ≡ regularsUsed a
-  pub complexes : complexesUsed b ≡ complexesUsed a
-  pub marked : ((s : ℕ) → s < 8 → 0 < increment (venueOf a) s) → Fully (venueOf a).regular → Marked b
+  pub venue : venue_of b ≡ venue_of a
+  pub regulars : regulars_used b ≡ regulars_used a
+  pub complexes : complexes_used b ≡ complexes_used a
+  pub marked : ((s : ℕ) → s < 8 → 0 < increment (venue_of a) s) → Fully (venue_of a).regular → Marked b
 
 -- b stands for v, all places in use are held, none is known to be, and mask, figures and flag are right
 pub record Laid (v : Venue) (b : List ℕ) : Type 0 where
-  pub venue : venueOf b ≡ v
-  pub regulars : Filled holdsRegular (regularIn b) (regularsUsed b)
-  pub complexes : Filled holdsComplex (complexIn b) (complexesUsed b)
+  pub venue : venue_of b ≡ v
+  pub regulars : Filled holds_regular (regular_in b) (regulars_used b)
+  pub complexes : Filled holds_complex (complex_in b) (complexes_used b)
   pub marked : Marked b
 
 -- b stands for v, and is dense
 pub record Loaded (v : Venue) (b : List ℕ) : Type 0 where
-  pub venue : venueOf b ≡ v
+  pub venue : venue_of b ≡ v
   pub dense : Dense b

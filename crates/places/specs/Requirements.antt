@@ -1,15 +1,15 @@
 -- What the functions on the numbers require, each part by its name.
 use Rattle.std.specs.Prelude.{◌≡◌, true, false, ◌||◌, ◌⊎◌, List, ℕ, ◌<◌, ◌≤◌, length}
 use Rattle.rules.specs.Base.{held}
-use Rattle.rules.specs.Complex.{restsRegular, restsComplex}
-use Rattle.rules.specs.Places.{holdsEdition}
-use Rattle.rules.specs.Sound.{showsFully}
-use Rattle.rules.specs.Refusals.{regularInRange}
-use Rattle.places.specs.Layout.{size, Right, Dense, Marked, Figured, regularsUsed, complexesUsed, noneShowsAgain, editionIn, venueOf, Below}
+use Rattle.rules.specs.Complex.{rests_regular, rests_complex}
+use Rattle.rules.specs.Places.{holds_edition}
+use Rattle.rules.specs.Sound.{shows_fully}
+use Rattle.rules.specs.Refusals.{regular_in_range}
+use Rattle.places.specs.Layout.{size, Right, Dense, Marked, Figured, regulars_used, complexes_used, none_shows_again, edition_in, venue_of, Below}
 use Rattle.rules.specs.declared.Regular.{Regular}
 use Rattle.rules.specs.declared.Complex.{Complex}
 use Rattle.rules.specs.declared.Edition.{Edition}
-use Rattle.rules.specs.Settings.{freeEdition}
+use Rattle.rules.specs.Settings.{free_edition}
 
 -- a whole slice, and what is kept beside the venue is right
 pub record RightNumbers (b : List ℕ) : Type 0 where
@@ -44,24 +44,24 @@ pub record PlaceReady (b : List ℕ) (i n : ℕ) : Type 0 where
 -- a whole slice and a regular place in use
 pub record RegularReady (b : List ℕ) (i : ℕ) : Type 0 where
   pub whole : length b ≡ size
-  pub inUse : i < regularsUsed b
+  pub in_use : i < regulars_used b
 
 -- a whole slice and a complex place in use
 pub record ComplexReady (b : List ℕ) (i : ℕ) : Type 0 where
   pub whole : length b ≡ size
-  pub inUse : i < complexesUsed b
+  pub in_use : i < complexes_used b
 
 -- a whole slice and two regular places in use
 pub record RegularsReady (b : List ℕ) (i j : ℕ) : Type 0 where
   pub whole : length b ≡ size
-  pub first : i < regularsUsed b
-  pub second : j < regularsUsed b
+  pub first : i < regulars_used b
+  pub second : j < regulars_used b
 
 -- a whole slice and two complex places in use
 pub record ComplexesReady (b : List ℕ) (i j : ℕ) : Type 0 where
   pub whole : length b ≡ size
-  pub first : i < complexesUsed b
-  pub second : j < complexesUsed b
+  pub first : i < complexes_used b
+  pub second : j < complexes_used b
 
 -- a whole slice, a series and a side
 pub record SideReady (b : List ℕ) (s d : ℕ) : Type 0 where
@@ -98,7 +98,7 @@ pub record RightShown (b : List ℕ) (s : ℕ) : Type 0 where
   pub whole : length b ≡ size
   pub right : Right b
   pub series : s < 8
-  pub shows : noneShowsAgain b ≡ true
+  pub shows : none_shows_again b ≡ true
 
 -- right numbers, a series and a side
 pub record RightSide (b : List ℕ) (s d : ℕ) : Type 0 where
@@ -116,40 +116,40 @@ pub record RightPlace (b : List ℕ) (n : ℕ) : Type 0 where
 -- right numbers and a regular place in use
 pub record RightRegular (b : List ℕ) (i : ℕ) : Type 0 where
   pub whole : length b ≡ size
-  pub inUse : i < regularsUsed b
+  pub in_use : i < regulars_used b
   pub right : Right b
 
 -- right numbers and a complex place in use
 pub record RightComplex (b : List ℕ) (i : ℕ) : Type 0 where
   pub whole : length b ≡ size
   pub right : Right b
-  pub inUse : i < complexesUsed b
+  pub in_use : i < complexes_used b
 
 -- n regular places are in use, and what is known of the places holds
 pub record CountedRegulars (b : List ℕ) (n : ℕ) : Type 0 where
   pub whole : length b ≡ size
-  pub count : n ≡ regularsUsed b
+  pub count : n ≡ regulars_used b
   pub marked : Marked b
 
 -- n complex places are in use, and what is known of the places holds
 pub record CountedComplexes (b : List ℕ) (n : ℕ) : Type 0 where
   pub whole : length b ≡ size
-  pub count : n ≡ complexesUsed b
+  pub count : n ≡ complexes_used b
   pub marked : Marked b
 
 -- a free regular place for o
 pub record RegularRoom (b : List ℕ) (o : Regular) : Type 0 where
   pub whole : length b ≡ size
-  pub room : regularsUsed b < 128
+  pub room : regulars_used b < 128
   pub series : o.series < 8
   pub side : o.side < 2
   pub display : o.display ≤ o.quantity
-  pub fully : showsFully o ≡ true
+  pub fully : shows_fully o ≡ true
 
 -- a free complex place for c
 pub record ComplexRoom (b : List ℕ) (c : Complex) : Type 0 where
   pub whole : length b ≡ size
-  pub room : complexesUsed b < 32
+  pub room : complexes_used b < 32
   pub first : c.series1 < 8
   pub side1 : c.side1 < 2
   pub second : c.series2 < 8
@@ -159,50 +159,50 @@ pub record ComplexRoom (b : List ℕ) (c : Complex) : Type 0 where
 pub record EditionRoom (b : List ℕ) (i : ℕ) (e : Edition) : Type 0 where
   pub whole : length b ≡ size
   pub place : i < 32
-  pub free : holdsEdition (editionIn b i) ≡ false
+  pub free : holds_edition (edition_in b i) ≡ false
   pub value : 0 < e.value ⊎ 7 < e.figure
 
 -- right numbers, and a free place for the newest order o
 pub record RightOrder (b : List ℕ) (o : Regular) : Type 0 where
   pub whole : length b ≡ size
   pub right : Right b
-  pub room : regularsUsed b < 128
+  pub room : regulars_used b < 128
   pub series : o.series < 8
   pub side : o.side < 2
   pub price : held o.price ≡ true
-  pub newest : Below o.id (venueOf b).regular
+  pub newest : Below o.id (venue_of b).regular
   pub shows : held o.display ≡ true
   pub display : o.display ≤ o.quantity
-  pub fully : showsFully o ≡ true
+  pub fully : shows_fully o ≡ true
 
 -- numbers without gaps, and a free place for the newest order o
 pub record DenseOrder (b : List ℕ) (o : Regular) : Type 0 where
   pub whole : length b ≡ size
   pub dense : Dense b
-  pub room : regularsUsed b < 128
+  pub room : regulars_used b < 128
   pub series : o.series < 8
   pub side : o.side < 2
   pub price : held o.price ≡ true
-  pub newest : Below o.id (venueOf b).regular
+  pub newest : Below o.id (venue_of b).regular
   pub shows : held o.display ≡ true
   pub display : o.display ≤ o.quantity
-  pub fully : showsFully o ≡ true
+  pub fully : shows_fully o ≡ true
 
 -- numbers without gaps, and an order with the id n rests
 pub record DenseRests (b : List ℕ) (n : ℕ) : Type 0 where
   pub whole : length b ≡ size
   pub dense : Dense b
-  pub rests : (restsRegular (venueOf b) n || restsComplex (venueOf b) n) ≡ true
+  pub rests : (rests_regular (venue_of b) n || rests_complex (venue_of b) n) ≡ true
 
 -- a whole slice, and a complex order with the id n rests
 pub record ComplexRests (b : List ℕ) (n : ℕ) : Type 0 where
   pub whole : length b ≡ size
-  pub rests : restsComplex (venueOf b) n ≡ true
+  pub rests : rests_complex (venue_of b) n ≡ true
 
 -- right numbers, a free edition, and a value that the figure may take
 pub record RightFigure (b : List ℕ) (f x : ℕ) : Type 0 where
   pub whole : length b ≡ size
-  pub free : freeEdition (venueOf b) < 32
+  pub free : free_edition (venue_of b) < 32
   pub value : 0 < x ⊎ 7 < f
   pub right : Right b
 
@@ -210,10 +210,10 @@ pub record RightFigure (b : List ℕ) (f x : ℕ) : Type 0 where
 pub record InRangeOrder (b : List ℕ) (o : Regular) : Type 0 where
   pub whole : length b ≡ size
   pub dense : Dense b
-  pub room : regularsUsed b < 128
-  pub in_range : regularInRange o ≡ true
-  pub fully : showsFully o ≡ true
-  pub newest : Below o.id (venueOf b).regular
+  pub room : regulars_used b < 128
+  pub in_range : regular_in_range o ≡ true
+  pub fully : shows_fully o ≡ true
+  pub newest : Below o.id (venue_of b).regular
 
 -- a whole slice and two of n places
 pub record PlacesReady (b : List ℕ) (i j n : ℕ) : Type 0 where

@@ -1,12 +1,12 @@
 // The venue inside a call: numbers in one slice (specs/Layout.antt), and how they are read. Only this crate, place_writes, venue_numbers and venue_reader know
 // the layout. The other crates read and write places, and their contracts name the venue that the numbers stand for.
 ghost use Rattle.std.specs.Prelude.{◌≡◌, min, ◌-◌, ◌≤◌, pos, ◌-ℤ◌, length, get_or};
-ghost use Rattle.rules.specs.Settings.{figureNow, freeEdition};
-ghost use Rattle.rules.specs.Generation.{generationsOf};
+ghost use Rattle.rules.specs.Settings.{figure_now, free_edition};
+ghost use Rattle.rules.specs.Generation.{generations_of};
 ghost use Rattle.rules.specs.Step.{mask};
-ghost use Rattle.places.specs.Layout.{size, regularsUsed, complexesUsed, regularIn, complexIn, leggingIn, listedIn, editionIn, levelIn, regularKey, crossKey, venueOf};
-ghost use Rattle.places.specs.Layout.{facingKey};
-ghost use Rattle.places.specs.Layout.{noneShowsAgain};
+ghost use Rattle.places.specs.Layout.{size, regulars_used, complexes_used, regular_in, complex_in, legging_in, listed_in, edition_in, level_in, regular_key, cross_key, venue_of};
+ghost use Rattle.places.specs.Layout.{facing_key};
+ghost use Rattle.places.specs.Layout.{none_shows_again};
 ghost use Rattle.places.specs.Requirements.{RightNumbers, SeriesReady, PlaceReady, FigureReady, GenerationReady};
 
 use rules::{Complex, Edition, Legging, Listed, Regular};
@@ -128,7 +128,7 @@ pub fn at_most(x: usize, n: usize) -> usize
 // How many regular places are in use, at most 128.
 pub fn regulars_used(numbers: &[u32]) -> usize
     requires { length numbers.now ≡ size }
-    ensures { (result ≡ regularsUsed numbers.now) × (result ≤ 128) }
+    ensures { (result ≡ regulars_used numbers.now) × (result ≤ 128) }
 {
     at_most(wide(numbers[REGULARS_USED_AT]), 128)
 }
@@ -136,7 +136,7 @@ pub fn regulars_used(numbers: &[u32]) -> usize
 // How many complex places are in use, at most 32.
 pub fn complexes_used(numbers: &[u32]) -> usize
     requires { length numbers.now ≡ size }
-    ensures { (result ≡ complexesUsed numbers.now) × (result ≤ 32) }
+    ensures { (result ≡ complexes_used numbers.now) × (result ≤ 32) }
 {
     at_most(wide(numbers[COMPLEXES_USED_AT]), 32)
 }
@@ -144,7 +144,7 @@ pub fn complexes_used(numbers: &[u32]) -> usize
 // What stands at a regular place.
 pub fn regular_at(numbers: &[u32], i: usize) -> Regular
     requires { PlaceReady numbers.now i 128 }
-    ensures { result ≡ regularIn numbers.now i }
+    ensures { result ≡ regular_in numbers.now i }
 {
     let place = numbers[4 * i + REGULAR_KEY_AT];
     let quantity = numbers[4 * i + REGULAR_QUANTITY_AT];
@@ -164,7 +164,7 @@ pub fn regular_at(numbers: &[u32], i: usize) -> Regular
 // The id of what stands at a regular place.
 pub fn regular_id(numbers: &[u32], i: usize) -> u32
     requires { PlaceReady numbers.now i 128 }
-    ensures { result ≡ (regularIn numbers.now i).id }
+    ensures { result ≡ (regular_in numbers.now i).id }
 {
     numbers[4 * i]
 }
@@ -172,7 +172,7 @@ pub fn regular_id(numbers: &[u32], i: usize) -> u32
 // The series and side of what stands at a regular place, as one number.
 pub fn key_at(numbers: &[u32], i: usize) -> usize
     requires { PlaceReady numbers.now i 128 }
-    ensures { result ≡ regularKey (regularIn numbers.now i) }
+    ensures { result ≡ regular_key (regular_in numbers.now i) }
 {
     wide(numbers[4 * i + REGULAR_KEY_AT] % 16)
 }
@@ -180,7 +180,7 @@ pub fn key_at(numbers: &[u32], i: usize) -> usize
 // What stands at a legging place.
 pub fn legging_at(numbers: &[u32], n: usize) -> Legging
     requires { PlaceReady numbers.now n 16 }
-    ensures { result ≡ leggingIn numbers.now n }
+    ensures { result ≡ legging_in numbers.now n }
 {
     Legging {
         parent: numbers[3 * n + LEGGING_PARENT_AT],
@@ -192,7 +192,7 @@ pub fn legging_at(numbers: &[u32], n: usize) -> Legging
 // A series' status and away prices.
 pub fn listed_at(numbers: &[u32], s: usize) -> Listed
     requires { SeriesReady numbers.now s }
-    ensures { result ≡ listedIn numbers.now s }
+    ensures { result ≡ listed_in numbers.now s }
 {
     let status = numbers[3 * s + SERIES_STATUS_AT];
     Listed {
@@ -205,7 +205,7 @@ pub fn listed_at(numbers: &[u32], s: usize) -> Listed
 // What stands at a place of the editions.
 pub fn edition_at(numbers: &[u32], i: usize) -> Edition
     requires { PlaceReady numbers.now i 32 }
-    ensures { result ≡ editionIn numbers.now i }
+    ensures { result ≡ edition_in numbers.now i }
 {
     let figure = numbers[4 * i + EDITION_FIGURE_AT];
     let value = numbers[4 * i + EDITION_VALUE_AT];
@@ -220,7 +220,7 @@ pub fn edition_at(numbers: &[u32], i: usize) -> Edition
 // The first place of the editions that is free; 32 where all are held.
 pub fn free_edition(numbers: &[u32]) -> usize
     requires { length numbers.now ≡ size }
-    ensures { result ≡ freeEdition (venueOf numbers.now) }
+    ensures { result ≡ free_edition (venue_of numbers.now) }
 {
     let mut i: usize = 0;
     while i < 32 {
@@ -235,7 +235,7 @@ pub fn free_edition(numbers: &[u32]) -> usize
 // A figure in force, as the numbers keep it: the increment of a series, or the percentage.
 pub fn figure_at(numbers: &[u32], f: usize) -> u8
     requires { FigureReady numbers.now f }
-    ensures { result ≡ figureNow (venueOf numbers.now) f }
+    ensures { result ≡ figure_now (venue_of numbers.now) f }
 {
     (numbers[2 * f + FIGURES_AT] % 256) as u8
 }
@@ -243,7 +243,7 @@ pub fn figure_at(numbers: &[u32], f: usize) -> u8
 // The mask of the legging places that are filled, as the numbers keep it: bit n is place n.
 pub fn mask_of(numbers: &[u32]) -> u16
     requires { RightNumbers numbers.now }
-    ensures { result ≡ mask (venueOf numbers.now).legging }
+    ensures { result ≡ mask (venue_of numbers.now).legging }
 {
     (numbers[LEGGING_MASK_AT] % 65536) as u16
 }
@@ -251,7 +251,7 @@ pub fn mask_of(numbers: &[u32]) -> u16
 // The show-again flag is 0. In right numbers every order then shows what it should.
 pub fn none_shows_again(numbers: &[u32]) -> bool
     requires { length numbers.now ≡ size }
-    ensures { result ≡ noneShowsAgain numbers.now }
+    ensures { result ≡ none_shows_again numbers.now }
 {
     numbers[SHOW_AGAIN_AT] == 0
 }
@@ -266,7 +266,7 @@ fn limit_of(x: u32) -> i32
 // What stands at a complex place.
 pub fn complex_at(numbers: &[u32], i: usize) -> Complex
     requires { PlaceReady numbers.now i 32 }
-    ensures { result ≡ complexIn numbers.now i }
+    ensures { result ≡ complex_in numbers.now i }
 {
     let legs = numbers[6 * i + COMPLEX_LEGS_AT];
     let ratios = numbers[6 * i + COMPLEX_RATIOS_AT];
@@ -289,7 +289,7 @@ pub fn complex_at(numbers: &[u32], i: usize) -> Complex
 // The legs and ratios of what stands at a complex place, as one number.
 pub fn cross_key_at(numbers: &[u32], i: usize) -> usize
     requires { PlaceReady numbers.now i 32 }
-    ensures { result ≡ crossKey (complexIn numbers.now i) }
+    ensures { result ≡ cross_key (complex_in numbers.now i) }
 {
     let legs = wide(numbers[6 * i + COMPLEX_LEGS_AT] % 256);
     let ratios = wide(numbers[6 * i + COMPLEX_RATIOS_AT] % 65536);
@@ -298,7 +298,7 @@ pub fn cross_key_at(numbers: &[u32], i: usize) -> usize
 
 // The key of an order whose legs face these two: the same series and ratios, at the opposite sides.
 pub fn facing_key(s: u8, d: u8, q: u8, t: u8, e: u8, r: u8) -> usize
-    ensures { result ≡ facingKey s d q t e r }
+    ensures { result ≡ facing_key s d q t e r }
 {
     let one = arithmetic::place_of(s, arithmetic::opposite_of(d));
     let two = arithmetic::place_of(t, arithmetic::opposite_of(e));
@@ -309,7 +309,7 @@ pub fn facing_key(s: u8, d: u8, q: u8, t: u8, e: u8, r: u8) -> usize
 // The last id accepted.
 pub fn last_id(numbers: &[u32]) -> u32
     requires { length numbers.now ≡ size }
-    ensures { result ≡ (venueOf numbers.now).last }
+    ensures { result ≡ (venue_of numbers.now).last }
 {
     numbers[LAST_ID_AT]
 }
@@ -317,7 +317,7 @@ pub fn last_id(numbers: &[u32]) -> u32
 // The message of one of a series' last 20 generations, oldest first; 0 where there were fewer.
 pub fn generation_at(numbers: &[u32], s: usize, k: usize) -> u32
     requires { GenerationReady numbers.now s k }
-    ensures { result ≡ get_or (generationsOf (venueOf numbers.now) s) k 0 }
+    ensures { result ≡ get_or (generations_of (venue_of numbers.now) s) k 0 }
 {
     numbers[20 * s + k + GENERATION_MESSAGES_AT]
 }
@@ -325,7 +325,7 @@ pub fn generation_at(numbers: &[u32], s: usize, k: usize) -> u32
 // The message of the oldest of a series' last 20 generations; 0 where there were fewer.
 pub fn oldest_at(numbers: &[u32], s: usize) -> u32
     requires { SeriesReady numbers.now s }
-    ensures { result ≡ get_or (generationsOf (venueOf numbers.now) s) 0 0 }
+    ensures { result ≡ get_or (generations_of (venue_of numbers.now) s) 0 0 }
 {
     generation_at(numbers, s, 0)
 }
@@ -333,7 +333,7 @@ pub fn oldest_at(numbers: &[u32], s: usize) -> u32
 // The last id that a limited sweep looked at.
 pub fn reached_id(numbers: &[u32]) -> u32
     requires { length numbers.now ≡ size }
-    ensures { result ≡ (venueOf numbers.now).reached }
+    ensures { result ≡ (venue_of numbers.now).reached }
 {
     numbers[ID_REACHED_AT]
 }
@@ -341,7 +341,7 @@ pub fn reached_id(numbers: &[u32]) -> u32
 // The level kept for a series and side: n is their legging place.
 pub fn level_at(numbers: &[u32], n: usize) -> Level
     requires { PlaceReady numbers.now n 16 }
-    ensures { result ≡ levelIn numbers.now n }
+    ensures { result ≡ level_in numbers.now n }
 {
     let low = numbers[3 * n + LEVEL_LOW_AT];
     let high = numbers[3 * n + LEVEL_HIGH_AT];

@@ -1,12 +1,12 @@
 // Own, clear and market prices of a side, the band and the increment; a legging order's parent; a complex order's other leg, and whether its series are open.
 ghost use Rattle.std.specs.Prelude.{◌≡◌, ◌<◌, length};
-ghost use Rattle.rules.specs.Words.{leggingAt, statusOf, isComplexOf};
+ghost use Rattle.rules.specs.Words.{legging_at, status_of, is_complex_of};
 ghost use Rattle.rules.specs.Settings.{increment};
-ghost use Rattle.rules.specs.Prices.{ownPrice, bestOwn, ownSize, clearPrice, away, marketBest, inBand};
-ghost use Rattle.rules.specs.Standing.{otherLeg, parentOf, bothOpen};
-ghost use Rattle.rules.specs.Complex.{anyClosed};
-ghost use Rattle.places.specs.Layout.{size, venueOf};
-ghost use Rattle.levels.specs.Grid.{sidesIn, LegsIn};
+ghost use Rattle.rules.specs.Prices.{own_price, best_own, own_size, clear_price, away, market_best, in_band};
+ghost use Rattle.rules.specs.Standing.{other_leg, parent_of, both_open};
+ghost use Rattle.rules.specs.Complex.{any_closed};
+ghost use Rattle.places.specs.Layout.{size, venue_of};
+ghost use Rattle.levels.specs.Grid.{sides_in, LegsIn};
 ghost use Rattle.levels.specs.Requirements.{BandReady, LevelReady, BestReady, BestOfSeries};
 ghost use Rattle.places.specs.Requirements.{SeriesReady, SideReady, IncrementReady};
 
@@ -19,7 +19,7 @@ use rules::{Complex, Leg, Legging};
 // What the test of the leg of c at side d of series s reads of the regular orders, looked up in a grid.
 pub fn sides_of(g: [[Level; 2]; 8], c: Complex, s: u8, d: u8) -> LegSides
     requires { (LegsIn c) × (s < 8) × (d < 2) }
-    ensures { result ≡ sidesIn g c s d }
+    ensures { result ≡ sides_in g c s d }
 {
     let s1 = c.series1 as usize;
     let d1 = arithmetic::opposite_of(c.side1) as usize;
@@ -43,7 +43,7 @@ pub fn sides_of(g: [[Level; 2]; 8], c: Complex, s: u8, d: u8) -> LegSides
 // The own price of the legging order of a series and side; 0 where there is none.
 pub fn own_price(numbers: &[u32], s: u8, d: u8) -> u32
     requires { SideReady numbers.now s d }
-    ensures { result ≡ ownPrice (leggingAt (venueOf numbers.now) s d) }
+    ensures { result ≡ own_price (legging_at (venue_of numbers.now) s d) }
 {
     let l = places::legging_at(numbers, arithmetic::place_of(s, d));
     if l.quantity == 0 {
@@ -55,7 +55,7 @@ pub fn own_price(numbers: &[u32], s: u8, d: u8) -> u32
 // The best own price of a side, legging included; `best` is its best regular price.
 pub fn best_own(numbers: &[u32], best: u32, s: u8, d: u8) -> u32
     requires { BestReady numbers.now best s d }
-    ensures { result ≡ bestOwn (venueOf numbers.now) s d }
+    ensures { result ≡ best_own (venue_of numbers.now) s d }
 {
     let own = own_price(numbers, s, d);
     arithmetic::better_of(d, own, best)
@@ -64,7 +64,7 @@ pub fn best_own(numbers: &[u32], best: u32, s: u8, d: u8) -> u32
 // The size at the best own price of a side, legging included; `level` is that of its regular orders.
 pub fn own_size(numbers: &[u32], level: Level, s: u8, d: u8) -> u64
     requires { LevelReady numbers.now level s d }
-    ensures { result ≡ ownSize (venueOf numbers.now) s d }
+    ensures { result ≡ own_size (venue_of numbers.now) s d }
 {
     let l = places::legging_at(numbers, arithmetic::place_of(s, d));
     if l.quantity == 0 {
@@ -83,7 +83,7 @@ pub fn own_size(numbers: &[u32], level: Level, s: u8, d: u8) -> u64
 // The clear price of a side: `best`, its best regular price, or 0 if there is none or if the legging order there has a strictly better own price.
 pub fn clear_price(numbers: &[u32], best: u32, s: u8, d: u8) -> u32
     requires { BestReady numbers.now best s d }
-    ensures { result ≡ clearPrice (venueOf numbers.now) s d }
+    ensures { result ≡ clear_price (venue_of numbers.now) s d }
 {
     let own = own_price(numbers, s, d);
     if arithmetic::is_better(d, own, best) {
@@ -95,7 +95,7 @@ pub fn clear_price(numbers: &[u32], best: u32, s: u8, d: u8) -> u32
 // The away price of a side.
 pub fn away_price(numbers: &[u32], s: u8, d: u8) -> u32
     requires { SeriesReady numbers.now s }
-    ensures { result ≡ away (venueOf numbers.now) s d }
+    ensures { result ≡ away (venue_of numbers.now) s d }
 {
     let x = places::listed_at(numbers, s as usize);
     if d == 0 {
@@ -107,7 +107,7 @@ pub fn away_price(numbers: &[u32], s: u8, d: u8) -> u32
 // The better of away and best regular price.
 pub fn market_best(numbers: &[u32], best: u32, s: u8, d: u8) -> u32
     requires { BestOfSeries numbers.now best s d }
-    ensures { result ≡ marketBest (venueOf numbers.now) s d }
+    ensures { result ≡ market_best (venue_of numbers.now) s d }
 {
     let out = away_price(numbers, s, d);
     arithmetic::better_of(d, out, best)
@@ -116,7 +116,7 @@ pub fn market_best(numbers: &[u32], best: u32, s: u8, d: u8) -> u32
 // The net t of a complex order is in band; `taken` has the levels that its legs take.
 pub fn in_band(numbers: &[u32], taken: TakenLevels, c: Complex, t: i64) -> bool
     requires { BandReady numbers.now taken c t }
-    ensures { result ≡ inBand (venueOf numbers.now) c t }
+    ensures { result ≡ in_band (venue_of numbers.now) c t }
 {
     let one = taken.first;
     let first = market_best(
@@ -145,14 +145,14 @@ pub fn in_band(numbers: &[u32], taken: TakenLevels, c: Complex, t: i64) -> bool
 // A series' increment in force. It is not 0.
 pub fn increment_of(numbers: &[u32], s: u8) -> u8
     requires { IncrementReady numbers.now s }
-    ensures { (result ≡ increment (venueOf numbers.now) s) × (0 < result) }
+    ensures { (result ≡ increment (venue_of numbers.now) s) × (0 < result) }
 {
     places::figure_at(numbers, s as usize)
 }
 
 // The leg of a complex order that is not in series s.
 pub fn other_leg(c: Complex, s: u8) -> Leg
-    ensures { result ≡ otherLeg c s }
+    ensures { result ≡ other_leg c s }
 {
     if c.series1 == s {
         return Leg {
@@ -168,7 +168,7 @@ pub fn other_leg(c: Complex, s: u8) -> Leg
 
 // A complex order rests and has this id.
 pub fn is_complex_of(c: Complex, id: u32) -> bool
-    ensures { result ≡ isComplexOf id c }
+    ensures { result ≡ is_complex_of id c }
 {
     if c.quantity == 0 {
         return false;
@@ -179,7 +179,7 @@ pub fn is_complex_of(c: Complex, id: u32) -> bool
 // The parent of a legging order; a free place where the parent does not rest.
 pub fn parent_of(numbers: &[u32], l: Legging) -> Complex
     requires { length numbers.now ≡ size }
-    ensures { result ≡ parentOf (venueOf numbers.now) l }
+    ensures { result ≡ parent_of (venue_of numbers.now) l }
 {
     let n = places::complexes_used(numbers);
     let mut i: usize = 0;
@@ -196,7 +196,7 @@ pub fn parent_of(numbers: &[u32], l: Legging) -> Complex
 // A series' status.
 pub fn status_of(numbers: &[u32], s: u8) -> u8
     requires { SeriesReady numbers.now s }
-    ensures { result ≡ statusOf (venueOf numbers.now) s }
+    ensures { result ≡ status_of (venue_of numbers.now) s }
 {
     let x = places::listed_at(numbers, s as usize);
     x.status
@@ -205,7 +205,7 @@ pub fn status_of(numbers: &[u32], s: u8) -> u8
 // Both series of a complex order are open.
 pub fn both_open(numbers: &[u32], c: Complex) -> bool
     requires { (length numbers.now ≡ size) × (LegsIn c) }
-    ensures { result ≡ bothOpen (venueOf numbers.now) c }
+    ensures { result ≡ both_open (venue_of numbers.now) c }
 {
     if status_of(numbers, c.series1) != 1 {
         return false;
@@ -216,7 +216,7 @@ pub fn both_open(numbers: &[u32], c: Complex) -> bool
 // A series of a complex order is closed.
 pub fn any_closed(numbers: &[u32], c: Complex) -> bool
     requires { (length numbers.now ≡ size) × (LegsIn c) }
-    ensures { result ≡ anyClosed (venueOf numbers.now) c }
+    ensures { result ≡ any_closed (venue_of numbers.now) c }
 {
     if status_of(numbers, c.series1) == 0 {
         return true;

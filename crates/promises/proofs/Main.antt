@@ -11,16 +11,16 @@ use lib.Count.{ones}
 use Rattle.rules.specs.declared.Venue.{Venue}
 use Rattle.rules.specs.declared.Legging.{Legging}
 use Rattle.rules.specs.Base.{held, keep}
-use Rattle.rules.specs.Words.{complexAt}
+use Rattle.rules.specs.Words.{complex_at}
 use Rattle.rules.specs.Standing.{settle}
-use Rattle.rules.specs.Trading.{freeRegular, freeComplex}
-use Rattle.rules.specs.Complex.{restingPlaces}
+use Rattle.rules.specs.Trading.{free_regular, free_complex}
+use Rattle.rules.specs.Complex.{resting_places}
 use Rattle.rules.specs.Step.{mask, filled}
 use Rattle.rules.specs.Trials.{outcome, expected}
 use Rattle.rules.proofs.ByPlace.{ByPlace}
 use Rattle.trials.specs.Trials.{trials}
 use Rattle.trials.specs.Filing.{filing}
-use Rattle.places.specs.Layout.{Dense, venueOf, regularsUsed, complexesUsed}
+use Rattle.places.specs.Layout.{Dense, venue_of, regulars_used, complexes_used}
 
 -- Document 01 ----------------------------------------------------------------------------------
 
@@ -398,7 +398,7 @@ layer-witness = Rattle.layer.proofs.Witness.witness
 -- Laws that "Shut out" cites -------------------------------------------------------------------
 
 -- A sweep goes over every resting complex order.
-pub resting-orders : (v : Venue) → map (complexAt v) (restingPlaces v) ≡ keep (λ c. held c.quantity) v.complex
+pub resting-orders : (v : Venue) → map (complex_at v) (resting_places v) ≡ keep (λ c. held c.quantity) v.complex
 resting-orders = Rattle.rules.proofs.Sweeping.resting-orders
 
 -- The ones of the mask are the legging places filled.
@@ -406,9 +406,9 @@ pub ones-mask : (ls : List Legging) → ones (mask ls) ≡ filled ls
 ones-mask = Rattle.book.proofs.Masks.ones-mask
 
 -- The first free place of a regular order is the count in use, so refusal 7 comes only with 128 resting.
-pub dense-regular : (b : List ℕ) → Dense b → freeRegular (venueOf b) ≡ regularsUsed b
+pub dense-regular : (b : List ℕ) → Dense b → free_regular (venue_of b) ≡ regulars_used b
 dense-regular = Rattle.place_writes.proofs.Closed.dense-regular
 
 -- The same of complex orders and 32.
-pub dense-complex : (b : List ℕ) → Dense b → freeComplex (venueOf b) ≡ complexesUsed b
+pub dense-complex : (b : List ℕ) → Dense b → free_complex (venue_of b) ≡ complexes_used b
 dense-complex = Rattle.place_writes.proofs.Closed.dense-complex

@@ -10,13 +10,13 @@ use borrow.Author.Tests.{eq-eqb, ne_eqb, leb-true, leb-false}
 use Rattle.rules.specs.declared.Venue.{Venue}
 use Rattle.rules.specs.declared.Decoded.{Decoded}
 use Rattle.rules.specs.declared.Decoded.TheVariants.{Taken, Refused}
-use Rattle.rules.specs.Bytes.{u16At, lengthField}
-use Rattle.rules.specs.Messages.{messageOf}
-use Rattle.rules.specs.Refusals.{torn, decoded, refusalOf, refusal}
-use Rattle.rules.proofs.RefusalsLaws.{decoded-by, refusalOf-by, whole, whole_in}
+use Rattle.rules.specs.Bytes.{u16_at, length_field}
+use Rattle.rules.specs.Messages.{message_of}
+use Rattle.rules.specs.Refusals.{torn, decoded, refusal_of, refusal}
+use Rattle.rules.proofs.RefusalsLaws.{decoded-by, refusal_of-by, whole, whole_in}
 use Rattle.wire.proofs.Numbers.{u16-here}
 use Rattle.reader.specs.declared.Head.TheVariants.{End, Torn, Message}
-use Rattle.reader.specs.Head.{head_of, headAt, headNumber, headLength}
+use Rattle.reader.specs.Head.{head_of, head_at, head_number, head_length}
 
 -- Of the bytes left ---------------------------------------------------------------------------
 
@@ -30,12 +30,12 @@ module _ (bs : List ℕ) where
     unfolding head_of
     head-torn t = rw (ne_eqb (length bs) 0 (λ z. omega arith), t)
 
-    pub head-message : torn bs ≡ false → head_of bs ≡ Message (lengthField bs)
+    pub head-message : torn bs ≡ false → head_of bs ≡ Message (length_field bs)
     unfolding head_of
     head-message t = rw (ne_eqb (length bs) 0 (λ z. omega arith), t)
 
 -- bytes that are not whole are torn
-torn-in : (bs : List ℕ) → ((4 ≤ lengthField bs) × (lengthField bs ≤ length bs) → ⊥) → torn bs ≡ true
+torn-in : (bs : List ℕ) → ((4 ≤ length_field bs) × (length_field bs ≤ length bs) → ⊥) → torn bs ≡ true
 torn-in bs h = go (torn bs) refl
   where
     go : (t : Bool) → torn bs ≡ t → torn bs ≡ true
@@ -51,44 +51,44 @@ module _ (v : Venue) (bs : List ℕ) where
   pub whole-refused : torn bs ≡ false → eqb (refusal v bs) 1 ≡ false
   unfolding refusal
   whole-refused =
-      decoded-by (λ (x : Decoded). torn bs ≡ false → eqb (elim x [ Taken m ↦ refusalOf v m | Refused n ↦ n ]) 1 ≡ false) bs
+      decoded-by (λ (x : Decoded). torn bs ≡ false → eqb (elim x [ Taken m ↦ refusal_of v m | Refused n ↦ n ]) 1 ≡ false) bs
       (λ t w. absurd (true≢false (sym t ∙ w))) (λ _ _ _. refl) (λ _ _ _. refl) (λ _ _ _. refl) (λ _ _ _. refl)
-      (λ _ _ _ _. refusalOf-by (λ x. eqb x 1 ≡ false) v (messageOf bs) refl refl refl refl refl refl refl refl (λ _ _ _ _ _ _ _ _. refl))
+      (λ _ _ _ _. refusal_of-by (λ x. eqb x 1 ≡ false) v (message_of bs) refl refl refl refl refl refl refl refl (λ _ _ _ _ _ _ _ _. refl))
 
 -- At a position -------------------------------------------------------------------------------
 
 module _ (m : List ℕ) (at : ℕ) where
-  pub at-end : length m ≤ at → End ≡ headAt m at
+  pub at-end : length m ≤ at → End ≡ head_at m at
   at-end h = sym (head-end (drop at m) (length-drop at m ∙ (omega arith)))
 
   module _ (ahead : at < length m) where
     some : 0 < length (drop at m)
     some = rw length-drop (omega arith)
 
-    front : lengthField (drop at m) ≡ u16At m at
-    unfolding lengthField
+    front : length_field (drop at m) ≡ u16_at m at
+    unfolding length_field
     front = sym (u16-here at m)
 
-    pub at-torn : (4 ≤ u16At m at → u16At m at ≤ length m - at → ⊥) → Torn ≡ headAt m at
+    pub at-torn : (4 ≤ u16_at m at → u16_at m at ≤ length m - at → ⊥) → Torn ≡ head_at m at
     at-torn h =
         let f = front in
         let k = length-drop at m in
         sym (head-torn (drop at m) some (torn-in (drop at m) (λ w. let a = w.0 in let b = w.1 in h (omega arith) (omega arith))))
 
-    pub at-message : (n : ℕ) → n ≡ u16At m at → 4 ≤ n → n ≤ length m - at → Message n ≡ headAt m at
+    pub at-message : (n : ℕ) → n ≡ u16_at m at → 4 ≤ n → n ≤ length m - at → Message n ≡ head_at m at
     at-message n e a b =
         let f = front in
         let k = length-drop at m in
         sym (head-message (drop at m) some (whole_in (drop at m) (omega arith, omega arith)) ∙ ap Message (f ∙ sym e))
 
   -- and back: the end is where nothing is left, and anything else stands ahead of it
-  pub at_none : headAt m at ≡ End → length m ≤ at
+  pub at_none : head_at m at ≡ End → length m ≤ at
   at_none e = go (leb (length m) at) refl
     where
       whole-not : at < length m → (t : Bool) → torn (drop at m) ≡ t → ⊥
-      whole-not h true f = let z = ap headNumber (sym (head-torn (drop at m) (some h) f) ∙ e) in omega arith
+      whole-not h true f = let z = ap head_number (sym (head-torn (drop at m) (some h) f) ∙ e) in omega arith
       whole-not h false f =
-          let z = ap headLength (sym (head-message (drop at m) (some h) f) ∙ e) in
+          let z = ap head_length (sym (head-message (drop at m) (some h) f) ∙ e) in
           let w = (whole (drop at m) f).0 in
           omega arith
 
@@ -96,7 +96,7 @@ module _ (m : List ℕ) (at : ℕ) where
       go true f = leb-true (length m) at f
       go false f = absurd (whole-not (leb-false (length m) at f) (torn (drop at m)) refl)
 
-  pub at_some : (headAt m at ≡ End → ⊥) → at < length m
+  pub at_some : (head_at m at ≡ End → ⊥) → at < length m
   at_some h = go (leb (length m) at) refl
     where
       go : (t : Bool) → leb (length m) at ≡ t → at < length m

@@ -1,27 +1,27 @@
 -- Document 01: "Messages are taken one by one from the caller's memory". What stands at a position of a message list, by refusal 1.
 use Rattle.std.specs.Prelude.{List, ℕ, eqb, length, drop}
 use Rattle.rules.specs.Base.{if◌then◌else◌}
-use Rattle.rules.specs.Bytes.{lengthField}
+use Rattle.rules.specs.Bytes.{length_field}
 use Rattle.rules.specs.Refusals.{torn}
 use Rattle.reader.specs.declared.Head.{Head}
 use Rattle.reader.specs.declared.Head.TheVariants.{End, Torn, Message}
 
 -- of the bytes left: none; "1 to 3 bytes left …, or length below 4 or above what is left"; or a message, given by its length
 unfoldable pub head_of : List ℕ → Head
-head_of bs = if eqb (length bs) 0 then End else if torn bs then Torn else Message (lengthField bs)
+head_of bs = if eqb (length bs) 0 then End else if torn bs then Torn else Message (length_field bs)
 
 -- at a position: what is left is all from there on
-abbrev pub headAt : (messages : List ℕ) (at : ℕ) → Head
-headAt messages at = head_of (drop at messages)
+abbrev pub head_at : (messages : List ℕ) (at : ℕ) → Head
+head_at messages at = head_of (drop at messages)
 
 -- "A run's number is 1 or 10 if that ended it, else 0": what each case ends a run with, 0 also where the run goes on
-abbrev pub headNumber : Head → ℕ
-headNumber End = 0
-headNumber Torn = 1
-headNumber (Message n) = 0
+abbrev pub head_number : Head → ℕ
+head_number End = 0
+head_number Torn = 1
+head_number (Message n) = 0
 
 -- how many bytes the run moves on
-abbrev pub headLength : Head → ℕ
-headLength End = 0
-headLength Torn = 0
-headLength (Message n) = n
+abbrev pub head_length : Head → ℕ
+head_length End = 0
+head_length Torn = 0
+head_length (Message n) = n

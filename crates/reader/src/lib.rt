@@ -1,7 +1,7 @@
 // Takes messages one by one from the caller's memory and copies none. A reader holds the memory and a position in it. The functions on a reader are thin:
 // `head_at` does the work on a plain slice. Other crates use `message_head`, whose parameters are plain.
 ghost use Rattle.std.specs.Prelude.{◌≡◌};
-ghost use Rattle.reader.specs.Head.{headAt, headNumber, headLength};
+ghost use Rattle.reader.specs.Head.{head_at, head_number, head_length};
 
 // The messages, and the position of the next one.
 #[derive(Drop)]
@@ -20,7 +20,7 @@ pub enum Head {
 
 // What stands at a position of a memory.
 fn head_at(messages: &[u8], at: usize) -> Head
-    ensures { result ≡ headAt messages.now at }
+    ensures { result ≡ head_at messages.now at }
 {
     if messages.len() <= at {
         return Head::End;
@@ -48,21 +48,21 @@ pub fn reader_at<'a>(messages: &'a [u8], at: usize) -> Reader<'a>
 
 // What stands where the reader is.
 pub fn next<'a>(r: Reader<'a>) -> Head
-    ensures { result ≡ headAt r.entry.messages.now r.entry.at }
+    ensures { result ≡ head_at r.entry.messages.now r.entry.at }
 {
     head_at(r.messages, r.at)
 }
 
 // What stands at a position of the messages.
 pub fn message_head(messages: &[u8], at: usize) -> Head
-    ensures { result ≡ headAt messages.now at }
+    ensures { result ≡ head_at messages.now at }
 {
     next(reader_at(messages, at))
 }
 
 // The number that ends a run there; 0 also where the run goes on.
 pub fn head_number(head: Head) -> u8
-    ensures { result ≡ headNumber head }
+    ensures { result ≡ head_number head }
 {
     match head {
         Head::End => 0,
@@ -73,7 +73,7 @@ pub fn head_number(head: Head) -> u8
 
 // How many bytes the run moves on.
 pub fn head_length(head: Head) -> u16
-    ensures { result ≡ headLength head }
+    ensures { result ≡ head_length head }
 {
     match head {
         Head::End => 0,

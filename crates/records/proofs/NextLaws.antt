@@ -9,11 +9,11 @@ use lib.IntN.{ℤ}
 use lib.ListN.{length, drop, drop_of_length-le}
 use lib.Seq.{drop-drop}
 use borrow.Author.Tests.{ne_eqb, eqb-true, eqb-false, leb-true, leb-false, ltb-true, ltb-false}
-use Rattle.rules.specs.Bytes.{u8_at, u16At, u32_at, as_signed, asUnsigned, lengthField, kindField, bytes, u16, u32, i32}
-use Rattle.rules.specs.Records.{Report, encode, encodeAll, sheet, recordOf, recordsFrom, records, TwoBytes, FourBytes, FourSigned, Fits, ForAll}
+use Rattle.rules.specs.Bytes.{u8_at, u16_at, u32_at, as_signed, as_unsigned, length_field, kind_field, bytes, u16, u32, i32}
+use Rattle.rules.specs.Records.{Report, encode, encode_all, sheet, record_of, records_from, records, TwoBytes, FourBytes, FourSigned, Fits, ForAll}
 use Rattle.records.specs.declared.Next.{Next}
 use Rattle.records.specs.declared.Next.TheVariants.{Found, End}
-use Rattle.records.specs.Next.{nextRecord, recordsAt}
+use Rattle.records.specs.Next.{next_record, records_at}
 use Rattle.records.specs.Seen.{Seen, seen, pasted, ◌plus◌}
 use Rattle.wire.proofs.Numbers.{u16-past, u16-drop, u16-here, u32-here}
 use Rattle.records.proofs.SeenLaws.{plus-in, pasted-from}
@@ -23,67 +23,67 @@ use Rattle.rules.proofs.CallsLaws.{sheet-length}
 -- Read after write ---------------------------------------------------------------------------
 
 module _ (l : List ℕ) (at : ℕ) where
-  pub u16-read : (x : ℕ) → TwoBytes x → at + 2 ≤ length l → u16At (pasted l at (u16 x)) at ≡ x
-  unfolding bytes u16At u8_at
+  pub u16-read : (x : ℕ) → TwoBytes x → at + 2 ≤ length l → u16_at (pasted l at (u16 x)) at ≡ x
+  unfolding bytes u16_at u8_at
   u16-read x h f =
-      u16-here at (pasted l at (u16 x)) ∙ ap (λ (m : List ℕ). u16At m 0) (pasted-from l (u16 x) at (omega arith)) ∙ half x h
+      u16-here at (pasted l at (u16 x)) ∙ ap (λ (m : List ℕ). u16_at m 0) (pasted-from l (u16 x) at (omega arith)) ∙ half x h
 
   pub u32-read : (x : ℕ) → FourBytes x → at + 4 ≤ length l → u32_at (pasted l at (u32 x)) at ≡ x
-  unfolding bytes u32_at u16At u8_at
+  unfolding bytes u32_at u16_at u8_at
   u32-read x h f =
       u32-here at (pasted l at (u32 x)) ∙ ap (λ (m : List ℕ). u32_at m 0) (pasted-from l (u32 x) at (omega arith)) ∙ word x h
 
   pub i32-read : (z : ℤ) → FourSigned z → at + 4 ≤ length l → as_signed (u32_at (pasted l at (i32 z)) at) ≡ z
-  i32-read z h f = ap as_signed (u32-read (asUnsigned z) (signed-small z h) f) ∙ signed_back z h
+  i32-read z h f = ap as_signed (u32-read (as_unsigned z) (signed-small z h) f) ∙ signed_back z h
 
-  pub record-read : (r : Report) → Fits r → at + length (encode r) ≤ length l → recordOf (drop at (seen l at plus encode r).memory) ≡ r
+  pub record-read : (r : Report) → Fits r → at + length (encode r) ≤ length l → record_of (drop at (seen l at plus encode r).memory) ≡ r
   unfolding seen
   record-read r h f =
-      ap (λ (w : Seen). recordOf (drop at w.memory)) (plus-in l (encode r) at f)
-      ∙ ap recordOf (pasted-from l (encode r) at (omega arith))
+      ap (λ (w : Seen). record_of (drop at w.memory)) (plus-in l (encode r) at f)
+      ∙ ap record_of (pasted-from l (encode r) at (omega arith))
       ∙ record-back r h (drop (at + length (encode r)) l)
 
 -- Sheets --------------------------------------------------------------------------------------
 
-pub encodeAll-append : (a b : List Report) → encodeAll (a ++ b) ≡ encodeAll a ++ encodeAll b
-unfolding encodeAll
-encodeAll-append [] b = refl
-encodeAll-append (r ∷ a) b = ap (λ (x : List ℕ). encode r ++ x) (encodeAll-append a b) ∙ sym (append_assoc (encode r) (encodeAll a) (encodeAll b))
+pub encode_all-append : (a b : List Report) → encode_all (a ++ b) ≡ encode_all a ++ encode_all b
+unfolding encode_all
+encode_all-append [] b = refl
+encode_all-append (r ∷ a) b = ap (λ (x : List ℕ). encode r ++ x) (encode_all-append a b) ∙ sym (append_assoc (encode r) (encode_all a) (encode_all b))
 
 -- Record by record ----------------------------------------------------------------------------
 
 module _ (m : List ℕ) (at : ℕ) where
-  pub next-none : u16At m at ≡ 0 → nextRecord m at ≡ End
-  unfolding nextRecord
+  pub next-none : u16_at m at ≡ 0 → next_record m at ≡ End
+  unfolding next_record
   next-none e = rw e
 
-  pub next-found : (end : ℕ) → (u16At m at ≡ 0 → ⊥) → end ≡ min (at + u16At m at) (length m) → nextRecord m at ≡ Found (u16At m (at + 2)) end
-  unfolding nextRecord
-  next-found end n e = rw (ne_eqb (u16At m at) 0 n, e)
+  pub next-found : (end : ℕ) → (u16_at m at ≡ 0 → ⊥) → end ≡ min (at + u16_at m at) (length m) → next_record m at ≡ Found (u16_at m (at + 2)) end
+  unfolding next_record
+  next-found end n e = rw (ne_eqb (u16_at m at) 0 n, e)
 
-  front_length : lengthField (drop at m) ≡ u16At m at
-  unfolding lengthField
+  front_length : length_field (drop at m) ≡ u16_at m at
+  unfolding length_field
   front_length = sym (u16-here at m)
 
   -- the sheet ends here
-  ends_at : u16At m at ≡ 0 → (fuel : ℕ) → recordsFrom fuel (drop at m) ≡ []
-  unfolding recordsFrom
+  ends_at : u16_at m at ≡ 0 → (fuel : ℕ) → records_from fuel (drop at m) ≡ []
+  unfolding records_from
   ends_at z zero = refl
-  ends_at z (suc fuel) = rw (front_length ∙ z, recordsFrom)
+  ends_at z (suc fuel) = rw (front_length ∙ z, records_from)
 
   -- or goes on after a record
-  after-at : (u16At m at ≡ 0 → ⊥) → (fuel : ℕ) → recordsFrom (suc fuel) (drop at m) ≡ recordOf (drop at m) ∷ recordsFrom fuel (drop (at + u16At m at) m)
-  unfolding recordsFrom
+  after-at : (u16_at m at ≡ 0 → ⊥) → (fuel : ℕ) → records_from (suc fuel) (drop at m) ≡ record_of (drop at m) ∷ records_from fuel (drop (at + u16_at m at) m)
+  unfolding records_from
   after-at n fuel =
-      rw (front_length, ne_eqb (u16At m at) 0 n, recordsFrom, front_length)
-      (ap (λ (l : List ℕ). recordOf (drop at m) ∷ recordsFrom fuel l) (drop-drop (u16At m at) at m))
+      rw (front_length, ne_eqb (u16_at m at) 0 n, records_from, front_length)
+      (ap (λ (l : List ℕ). record_of (drop at m) ∷ records_from fuel l) (drop-drop (u16_at m at) at m))
 
 -- what `Found kind end` says of the record at a position and of those after it
 pub record Follows (m : List ℕ) (at kind end : ℕ) : Type 0 where
-  pub kind-is : kindField (drop at m) ≡ kind
+  pub kind-is : kind_field (drop at m) ≡ kind
   pub further : at < end
   pub inside : end ≤ length m
-  pub rest-is : (fuel : ℕ) → recordsFrom (suc fuel) (drop at m) ≡ recordOf (drop at m) ∷ recordsFrom fuel (drop end m)
+  pub rest-is : (fuel : ℕ) → records_from (suc fuel) (drop at m) ≡ record_of (drop at m) ∷ records_from fuel (drop end m)
 
 module _ (m : List ℕ) (at : ℕ) where
   drop-end : (n : ℕ) → drop n m ≡ drop (min n (length m)) m
@@ -96,54 +96,54 @@ module _ (m : List ℕ) (at : ℕ) where
           drop_of_length-le m {i = n} (omega arith) ∙ sym (drop_of_length-le m {i = min n (length m)} (omega arith))
 
   -- a length other than 0 stands within the memory
-  within-at : (u16At m at ≡ 0 → ⊥) → at < length m
+  within-at : (u16_at m at ≡ 0 → ⊥) → at < length m
   within-at n = go (ltb at (length m)) refl
     where
       go : (t : Bool) → ltb at (length m) ≡ t → at < length m
       go true b = ltb-true _ _ b
       go false b = absurd (n (u16-past m at (ltb-false _ _ b)))
 
-  end_is : (end : ℕ) → (u16At m at ≡ 0 → ⊥) → end ≡ min (at + u16At m at) (length m) → Follows m at (u16At m (at + 2)) end
-  unfolding kindField
+  end_is : (end : ℕ) → (u16_at m at ≡ 0 → ⊥) → end ≡ min (at + u16_at m at) (length m) → Follows m at (u16_at m (at + 2)) end
+  unfolding kind_field
   end_is end n e = record {
     kind-is = u16-drop at m 2;
     further = (let h = within-at n in omega (arith, n));
     inside = omega arith;
-    rest-is = λ fuel. after-at m at n fuel ∙ ap (λ (l : List ℕ). recordOf (drop at m) ∷ recordsFrom fuel l) (drop-end (at + u16At m at) ∙ ap (λ (k : ℕ). drop k m) (sym e));
+    rest-is = λ fuel. after-at m at n fuel ∙ ap (λ (l : List ℕ). record_of (drop at m) ∷ records_from fuel l) (drop-end (at + u16_at m at) ∙ ap (λ (k : ℕ). drop k m) (sym e));
   }
 
-  pub next-follows : (kind end : ℕ) → nextRecord m at ≡ Found kind end → Follows m at kind end
-  next-follows kind end e = go (eqb (u16At m at) 0) refl
+  pub next-follows : (kind end : ℕ) → next_record m at ≡ Found kind end → Follows m at kind end
+  next-follows kind end e = go (eqb (u16_at m at) 0) refl
     where
-      go : (t : Bool) → eqb (u16At m at) 0 ≡ t → Follows m at kind end
+      go : (t : Bool) → eqb (u16_at m at) 0 ≡ t → Follows m at kind end
       go true b = let z : ◌≡◌ {A = ℕ} 0 1 = (let q = next-none m at (eqb-true _ _ b) in cc) in absurd (omega arith)
       go false b =
-          let n = eqb-false (u16At m at) 0 b in
-          let q : nextRecord m at ≡ Found (u16At m (at + 2)) (min (at + u16At m at) (length m)) = next-found m at _ n refl in
-          let k : u16At m (at + 2) ≡ kind = cc in
-          let f : end ≡ min (at + u16At m at) (length m) = cc in
+          let n = eqb-false (u16_at m at) 0 b in
+          let q : next_record m at ≡ Found (u16_at m (at + 2)) (min (at + u16_at m at) (length m)) = next-found m at _ n refl in
+          let k : u16_at m (at + 2) ≡ kind = cc in
+          let f : end ≡ min (at + u16_at m at) (length m) = cc in
           subst (λ (x : ℕ). Follows m at x end) k (end_is end n f)
 
-  pub next-ends : nextRecord m at ≡ End → (fuel : ℕ) → recordsFrom fuel (drop at m) ≡ []
-  next-ends e = go (eqb (u16At m at) 0) refl
+  pub next-ends : next_record m at ≡ End → (fuel : ℕ) → records_from fuel (drop at m) ≡ []
+  next-ends e = go (eqb (u16_at m at) 0) refl
     where
-      go : (t : Bool) → eqb (u16At m at) 0 ≡ t → (fuel : ℕ) → recordsFrom fuel (drop at m) ≡ []
+      go : (t : Bool) → eqb (u16_at m at) 0 ≡ t → (fuel : ℕ) → records_from fuel (drop at m) ≡ []
       go true b = ends_at m at (eqb-true _ _ b)
       go false b = let z : ◌≡◌ {A = ℕ} 0 1 = (let q = next-found m at _ (eqb-false _ _ b) refl in cc) in absurd (omega arith)
 
 -- a reader who goes from record to record meets the records of the memory
-pub walked : (fuel : ℕ) (m : List ℕ) (at : ℕ) → recordsAt fuel m at ≡ recordsFrom fuel (drop at m)
-unfolding recordsAt recordsFrom
+pub walked : (fuel : ℕ) (m : List ℕ) (at : ℕ) → records_at fuel m at ≡ records_from fuel (drop at m)
+unfolding records_at records_from
 walked zero m at = refl
-walked (suc fuel) m at = go (nextRecord m at) refl (λ end. walked fuel m end)
+walked (suc fuel) m at = go (next_record m at) refl (λ end. walked fuel m end)
   where
-    go : (x : Next) → nextRecord m at ≡ x → ((end : ℕ) → recordsAt fuel m end ≡ recordsFrom fuel (drop end m)) →
-        recordsAt (suc fuel) m at ≡ recordsFrom (suc fuel) (drop at m)
+    go : (x : Next) → next_record m at ≡ x → ((end : ℕ) → records_at fuel m end ≡ records_from fuel (drop end m)) →
+        records_at (suc fuel) m at ≡ records_from (suc fuel) (drop at m)
     go (Found kind end) e rest =
-        rw (e, recordsAt) (ap (λ (l : List Report). recordOf (drop at m) ∷ l) (rest end) ∙ sym ((next-follows m at kind end e).rest-is fuel))
-    go End e rest = rw (e, recordsAt) (sym (next-ends m at e (suc fuel)))
+        rw (e, records_at) (ap (λ (l : List Report). record_of (drop at m) ∷ l) (rest end) ∙ sym ((next-follows m at kind end e).rest-is fuel))
+    go End e rest = rw (e, records_at) (sym (next-ends m at e (suc fuel)))
 
-pub walks-back : (room : ℕ) (rs : List Report) → ForAll Fits rs → length (encodeAll rs) ≤ room → recordsAt room (sheet room rs) 0 ≡ rs
+pub walks-back : (room : ℕ) (rs : List Report) → ForAll Fits rs → length (encode_all rs) ≤ room → records_at room (sheet room rs) 0 ≡ rs
 unfolding records
 walks-back room rs h le =
-    walked room (sheet room rs) 0 ∙ ap (λ (k : ℕ). recordsFrom k (sheet room rs)) (sym (sheet-length room rs le)) ∙ reads-back room rs h le
+    walked room (sheet room rs) 0 ∙ ap (λ (k : ℕ). records_from k (sheet room rs)) (sym (sheet-length room rs le)) ∙ reads-back room rs h le

@@ -11,7 +11,7 @@ use lib.Seq.{paste, take-suc, take-length, take_all, length-take-le, take-take, 
 use borrow.Author.Tests.{le-leb, lt-leb, leb-true, leb-false}
 use borrow.Rule.Slice.PartMut.{put_mid}
 use Rattle.rules.specs.Bytes.{u32, framed, bytes}
-use Rattle.rules.specs.Records.{Report, answer, encode, encodeAll, sheet}
+use Rattle.rules.specs.Records.{Report, answer, encode, encode_all, sheet}
 use Rattle.records.specs.Seen.{Seen, seen, pasted, word_bytes, ◌plus◌, ◌writes◌}
 
 -- One write -----------------------------------------------------------------------------------
@@ -212,13 +212,13 @@ writes-room w [] = refl
 writes-room w (r ∷ rs) = writes-room (w plus encode r) rs ∙ plus-room w (encode r)
 
 -- the records fit: their bytes stand one after another from the position on
-pub writes-in : (l : List ℕ) (at : ℕ) (rs : List Report) → at + length (encodeAll rs) ≤ length l →
-    seen l at writes rs ≡ seen (pasted l at (encodeAll rs)) (at + length (encodeAll rs))
-unfolding ◌writes◌ encodeAll
+pub writes-in : (l : List ℕ) (at : ℕ) (rs : List Report) → at + length (encode_all rs) ≤ length l →
+    seen l at writes rs ≡ seen (pasted l at (encode_all rs)) (at + length (encode_all rs))
+unfolding ◌writes◌ encode_all
 writes-in l at [] h = let e : at ≡ at + 0 = omega arith in ap₂ seen (sym (pasted-nil l at)) e
 writes-in l at (r ∷ rs) h =
     let a : List ℕ = encode r in
-    let b : List ℕ = encodeAll rs in
+    let b : List ℕ = encode_all rs in
     let n = length-append a b in
     let k : at + length a ≤ length l = omega arith in
     let e : at + length a + length b ≡ at + length (a ++ b) = omega arith in
@@ -234,16 +234,16 @@ stuck l [] = refl
 stuck l (r ∷ rs) = ap (λ (w : Seen). w writes rs) (plus-out l (encode r) (suc (length l)) (omega arith)) ∙ stuck l rs
 
 -- they do not fit: the position is past the end
-pub writes-out : (l : List ℕ) (at : ℕ) (rs : List Report) → length l < at + length (encodeAll rs) → length l < (seen l at writes rs).at
-unfolding seen ◌writes◌ encodeAll
+pub writes-out : (l : List ℕ) (at : ℕ) (rs : List Report) → length l < at + length (encode_all rs) → length l < (seen l at writes rs).at
+unfolding seen ◌writes◌ encode_all
 writes-out l at [] h = omega arith
 writes-out l at (r ∷ rs) h = go (leb (at + length a) (length l)) refl (λ k. writes-out (pasted l at a) (at + length a) rs (more k))
   where
     a : List ℕ
     a = encode r
 
-    more : (k : at + length a ≤ length l) → length (pasted l at a) < at + length a + length (encodeAll rs)
-    more k = let p = pasted_length l a at k in let n = length-append a (encodeAll rs) in omega arith
+    more : (k : at + length a ≤ length l) → length (pasted l at a) < at + length a + length (encode_all rs)
+    more k = let p = pasted_length l a at k in let n = length-append a (encode_all rs) in omega arith
 
     go : (t : Bool) → leb (at + length a) (length l) ≡ t →
         (at + length a ≤ length l → length (pasted l at a) < (seen (pasted l at a) (at + length a) writes rs).at) →
@@ -313,9 +313,9 @@ writes_below l at (r ∷ rs) k h i =
 
 -- the records were written: they fit, and nothing else changed
 pub record Wrote (l : List ℕ) (at : ℕ) (rs : List Report) (m : List ℕ) (end : ℕ) : Type 0 where
-  pub fits : at + length (encodeAll rs) ≤ length l
-  pub end_is : end ≡ at + length (encodeAll rs)
-  pub memory-is : m ≡ pasted l at (encodeAll rs)
+  pub fits : at + length (encode_all rs) ≤ length l
+  pub end_is : end ≡ at + length (encode_all rs)
+  pub memory-is : m ≡ pasted l at (encode_all rs)
 
 module _ (l m : List ℕ) (at end : ℕ) (rs : List Report) (e : seen m end ≡ seen l at writes rs) where
   same_at : end ≡ (seen l at writes rs).at
@@ -336,11 +336,11 @@ module _ (l m : List ℕ) (at end : ℕ) (rs : List Report) (e : seen m end ≡ 
 
   pub wrote : end ≤ length l → Wrote l at rs m end
   unfolding seen
-  wrote h = go (leb (at + length (encodeAll rs)) (length l)) refl
+  wrote h = go (leb (at + length (encode_all rs)) (length l)) refl
     where
-      go : (t : Bool) → leb (at + length (encodeAll rs)) (length l) ≡ t → Wrote l at rs m end
+      go : (t : Bool) → leb (at + length (encode_all rs)) (length l) ≡ t → Wrote l at rs m end
       go true b =
-          let f : at + length (encodeAll rs) ≤ length l = leb-true _ _ b in
+          let f : at + length (encode_all rs) ≤ length l = leb-true _ _ b in
           record {
             fits = f;
             end_is = same_at ∙ ap (λ (w : Seen). w.at) (writes-in l at rs f);
@@ -349,13 +349,13 @@ module _ (l m : List ℕ) (at end : ℕ) (rs : List Report) (e : seen m end ≡ 
       go false b = let z = writes-out l at rs (leb-false _ _ b) in let y = same_at in absurd (omega arith)
 
   -- they did not fit
-  pub overflowed : length l < end → length l < at + length (encodeAll rs)
+  pub overflowed : length l < end → length l < at + length (encode_all rs)
   unfolding seen
-  overflowed h = go (leb (at + length (encodeAll rs)) (length l)) refl
+  overflowed h = go (leb (at + length (encode_all rs)) (length l)) refl
     where
-      go : (t : Bool) → leb (at + length (encodeAll rs)) (length l) ≡ t → length l < at + length (encodeAll rs)
+      go : (t : Bool) → leb (at + length (encode_all rs)) (length l) ≡ t → length l < at + length (encode_all rs)
       go true b =
-          let f : at + length (encodeAll rs) ≤ length l = leb-true _ _ b in
+          let f : at + length (encode_all rs) ≤ length l = leb-true _ _ b in
           let z = same_at ∙ ap (λ (w : Seen). w.at) (writes-in l at rs f) in
           absurd (omega arith)
       go false b = leb-false _ _ b
@@ -367,7 +367,7 @@ pub sheet-left : (l m o : List ℕ) (end : ℕ) (rs : List Report) → seen m en
 unfolding sheet
 sheet-left l m o end rs e h k t =
     let w = wrote l m 0 end rs e h in
-    let bs : List ℕ = encodeAll rs in
+    let bs : List ℕ = encode_all rs in
     let f : take end o ≡ bs = t ∙ ap₂ take w.end_is w.memory-is ∙ pasted-to l bs 0 (omega arith) in
     let n : length o - end ≡ length l - length bs = (let r = seen-room l m 0 end rs e in let q = w.end_is in omega arith) in
     ap₂ (λ (x : List ℕ) (j : ℕ). x ++ replicate j 0) f n

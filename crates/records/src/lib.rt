@@ -3,7 +3,7 @@ ghost use Rattle.std.specs.Prelude.{◌≡◌, [], ◌∷◌, ◌++◌, ◌+◌,
 ghost use Rattle.rules.specs.Bytes.{bytes, i32};
 ghost use Rattle.rules.specs.Records.{answer, trade, pair, generated, removed, crossed, cancelled, looked};
 ghost use Rattle.records.specs.Seen.{seen, pasted, word_bytes, ◌plus◌, ◌writes◌};
-ghost use Rattle.records.specs.Next.{nextRecord};
+ghost use Rattle.records.specs.Next.{next_record};
 
 use rules::Cause;
 
@@ -242,7 +242,7 @@ pub enum Next {
 
 // The record at a position of a report memory, or the end of the sheet.
 pub fn next_record(memory: &[u8], at: usize) -> Next
-    ensures { result ≡ nextRecord memory.now at }
+    ensures { result ≡ next_record memory.now at }
 {
     let n = memory.len();
     if n <= at {

@@ -7,8 +7,8 @@ use native.Mathlib.Omega.{arith}
 use native.Mathlib.Decide.{dec_lt}
 use lib.ListN.{length, get_or}
 use Rattle.rules.specs.Base.{all}
-use Rattle.rules.specs.Words.{noEdition}
-use Rattle.places.specs.Layout.{inUse, editionIn, venueOf}
+use Rattle.rules.specs.Words.{no_edition}
+use Rattle.places.specs.Layout.{in_use, edition_in, venue_of}
 use Rattle.places.proofs.Tables.{used-at, used-free, used-length, whole}
 
 module _ {A : Type 0} (f : A → Bool) (d : A) where
@@ -28,17 +28,17 @@ module _ {A : Type 0} (f : A → Bool) (d : A) where
       go false h = refl
 
   module _ (g : ℕ → A) (n m : ℕ) (few : n ≤ m) where
-    pub all_pass : (n < m → f d ≡ true) → ((j : ℕ) → j < n → f (g j) ≡ true) → true ≡ all f (inUse g d n m)
-    all_pass free h = passes (inUse g d n m) (λ i q. go i (dec_lt i n) (rw (used-length g d n m few) at q))
+    pub all_pass : (n < m → f d ≡ true) → ((j : ℕ) → j < n → f (g j) ≡ true) → true ≡ all f (in_use g d n m)
+    all_pass free h = passes (in_use g d n m) (λ i q. go i (dec_lt i n) (rw (used-length g d n m few) at q))
       where
-        go : (i : ℕ) → Dec (i < n) → i < m → f (get_or (inUse g d n m) i d) ≡ true
+        go : (i : ℕ) → Dec (i < n) → i < m → f (get_or (in_use g d n m) i d) ≡ true
         go i (yes p) q = ap f (used-at g d n m i p) ∙ h i p
         go i (no p) q = ap f (used-free g d n m i (omega arith)) ∙ free (omega arith)
 
-    pub one-fails : (i : ℕ) → i < n → f (g i) ≡ false → false ≡ all f (inUse g d n m)
-    one-fails i q e = let l = used-length g d n m few in fails (inUse g d n m) i (omega arith) (ap f (used-at g d n m i q) ∙ e)
+    pub one-fails : (i : ℕ) → i < n → f (g i) ≡ false → false ≡ all f (in_use g d n m)
+    one-fails i q e = let l = used-length g d n m few in fails (in_use g d n m) i (omega arith) (ap f (used-at g d n m i q) ∙ e)
 
 -- the editions are a table whose places are all in use
-pub editions-used : (b : List ℕ) → inUse (editionIn b) noEdition 32 32 ≡ (venueOf b).editions
-unfolding venueOf
-editions-used b = whole (editionIn b) noEdition 32
+pub editions-used : (b : List ℕ) → in_use (edition_in b) no_edition 32 32 ≡ (venue_of b).editions
+unfolding venue_of
+editions-used b = whole (edition_in b) no_edition 32

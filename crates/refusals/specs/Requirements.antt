@@ -1,6 +1,6 @@
 -- What the functions require, each part by its name.
 use Rattle.std.specs.Prelude.{◌≡◌, true, List, ℕ, length}
-use Rattle.rules.specs.Refusals.{regularInRange, complexInRange}
+use Rattle.rules.specs.Refusals.{regular_in_range, complex_in_range}
 use Rattle.places.specs.Layout.{size, Dense}
 use Rattle.rules.specs.declared.Regular.{Regular}
 use Rattle.rules.specs.declared.Complex.{Complex}
@@ -9,10 +9,10 @@ use Rattle.rules.specs.declared.Complex.{Complex}
 pub record OrderInRange (b : List ℕ) (o : Regular) : Type 0 where
   pub whole : length b ≡ size
   pub dense : Dense b
-  pub in_range : regularInRange o ≡ true
+  pub in_range : regular_in_range o ≡ true
 
 -- numbers without gaps, and a complex order in range
 pub record ComplexInRange (b : List ℕ) (c : Complex) : Type 0 where
   pub whole : length b ≡ size
   pub dense : Dense b
-  pub in_range : complexInRange c ≡ true
+  pub in_range : complex_in_range c ≡ true

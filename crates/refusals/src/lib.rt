@@ -2,10 +2,10 @@
 ghost use Rattle.std.specs.Prelude.{◌≡◌, not, ◌&&◌, ◌||◌, ltb, eqb, length};
 ghost use Rattle.rules.specs.declared.Message.TheVariants.{Order, TwoLeg};
 ghost use Rattle.rules.specs.Base.{held, all};
-ghost use Rattle.rules.specs.Complex.{restsRegular, restsComplex};
-ghost use Rattle.rules.specs.Refusals.{offIncrement, idle, refusalOf};
-ghost use Rattle.places.specs.Layout.{size, venueOf};
-ghost use Rattle.refusals.specs.Editions.{editionRefusal};
+ghost use Rattle.rules.specs.Complex.{rests_regular, rests_complex};
+ghost use Rattle.rules.specs.Refusals.{off_increment, idle, refusal_of};
+ghost use Rattle.places.specs.Layout.{size, venue_of};
+ghost use Rattle.refusals.specs.Editions.{edition_refusal};
 ghost use Rattle.places.specs.Requirements.{DenseNumbers, SeriesReady, IncrementReady};
 ghost use Rattle.refusals.specs.Requirements.{OrderInRange, ComplexInRange};
 
@@ -17,7 +17,7 @@ use rules::{Complex, Regular};
 // An order's price is off its series' increment in force.
 fn off_increment(numbers: &[u32], o: Regular) -> bool
     requires { IncrementReady numbers.now o.series }
-    ensures { result ≡ offIncrement (venueOf numbers.now) (Order o) }
+    ensures { result ≡ off_increment (venue_of numbers.now) (Order o) }
 {
     let increment = prices::increment_of(numbers, o.series);
     o.price % (increment as u32) != 0
@@ -26,7 +26,7 @@ fn off_increment(numbers: &[u32], o: Regular) -> bool
 // The refusal of an order with its fields in their ranges, or 0.
 pub fn order_refusal(numbers: &[u32], o: Regular) -> u8
     requires { OrderInRange numbers.now o }
-    ensures { result ≡ refusalOf (venueOf numbers.now) (Order o) }
+    ensures { result ≡ refusal_of (venue_of numbers.now) (Order o) }
 {
     if off_increment(numbers, o) {
         return 4;
@@ -46,7 +46,7 @@ pub fn order_refusal(numbers: &[u32], o: Regular) -> u8
 // The refusal of a complex order with its fields in their ranges, or 0.
 pub fn complex_refusal(numbers: &[u32], c: Complex) -> u8
     requires { ComplexInRange numbers.now c }
-    ensures { result ≡ refusalOf (venueOf numbers.now) (TwoLeg c) }
+    ensures { result ≡ refusal_of (venue_of numbers.now) (TwoLeg c) }
 {
     if c.id <= places::last_id(numbers) {
         return 5;
@@ -63,7 +63,7 @@ pub fn complex_refusal(numbers: &[u32], c: Complex) -> u8
 // A complex order with an id rests.
 fn complex_rests(numbers: &[u32], id: u32) -> bool
     requires { length numbers.now ≡ size }
-    ensures { result ≡ restsComplex (venueOf numbers.now) id }
+    ensures { result ≡ rests_complex (venue_of numbers.now) id }
 {
     let found = book::complex_place(numbers, id);
     match found {
@@ -75,7 +75,7 @@ fn complex_rests(numbers: &[u32], id: u32) -> bool
 // An order with an id rests, in one book or the other.
 pub fn rests(numbers: &[u32], id: u32) -> bool
     requires { DenseNumbers numbers.now }
-    ensures { result ≡ (restsRegular (venueOf numbers.now) id || restsComplex (venueOf numbers.now) id) }
+    ensures { result ≡ (rests_regular (venue_of numbers.now) id || rests_complex (venue_of numbers.now) id) }
 {
     let found = book::regular_place(numbers, id);
     match found {
@@ -89,7 +89,7 @@ pub fn rests(numbers: &[u32], id: u32) -> bool
 // An edition is above every edition kept.
 fn is_above(numbers: &[u32], edition: u32) -> bool
     requires { length numbers.now ≡ size }
-    ensures { result ≡ all (λ k. ltb k.edition edition) (venueOf numbers.now).editions }
+    ensures { result ≡ all (λ k. ltb k.edition edition) (venue_of numbers.now).editions }
 {
     let mut i: usize = 0;
     while i < 32 {
@@ -115,7 +115,7 @@ fn rests_in(o: Regular, s: u8) -> bool
 // No regular order rests in a series.
 fn no_order_in(numbers: &[u32], s: u8) -> bool
     requires { length numbers.now ≡ size }
-    ensures { result ≡ all (λ o. not (held o.quantity && eqb o.series s)) (venueOf numbers.now).regular }
+    ensures { result ≡ all (λ o. not (held o.quantity && eqb o.series s)) (venue_of numbers.now).regular }
 {
     let n = places::regulars_used(numbers);
     let mut i: usize = 0;
@@ -145,7 +145,7 @@ fn has_leg_in(c: Complex, s: u8) -> bool
 // No resting complex order has a leg in a series.
 fn no_leg_in(numbers: &[u32], s: u8) -> bool
     requires { length numbers.now ≡ size }
-    ensures { result ≡ all (λ c. not (held c.quantity && (eqb c.series1 s || eqb c.series2 s))) (venueOf numbers.now).complex }
+    ensures { result ≡ all (λ c. not (held c.quantity && (eqb c.series1 s || eqb c.series2 s))) (venue_of numbers.now).complex }
 {
     let n = places::complexes_used(numbers);
     let mut i: usize = 0;
@@ -162,7 +162,7 @@ fn no_leg_in(numbers: &[u32], s: u8) -> bool
 // A series is closed, and no order or leg rests in it.
 pub fn is_idle(numbers: &[u32], s: u8) -> bool
     requires { SeriesReady numbers.now s }
-    ensures { result ≡ idle (venueOf numbers.now) s }
+    ensures { result ≡ idle (venue_of numbers.now) s }
 {
     if prices::status_of(numbers, s) != 0 {
         return false;
@@ -176,7 +176,7 @@ pub fn is_idle(numbers: &[u32], s: u8) -> bool
 // The first of 11 to 13 that a new edition meets; `used` where its figure is the increment of a series in use.
 pub fn edition_refusal(numbers: &[u32], edition: u32, used: bool) -> u8
     requires { length numbers.now ≡ size }
-    ensures { result ≡ editionRefusal (venueOf numbers.now) edition used }
+    ensures { result ≡ edition_refusal (venue_of numbers.now) edition used }
 {
     if !is_above(numbers, edition) {
         return 11;

@@ -1,11 +1,11 @@
 // Removes legging orders from the venue in its slice, and writes their records (68) by rising place.
 ghost use Rattle.std.specs.Prelude.{◌≡◌, ◌||◌, ℕ, eqb, length};
 ghost use Rattle.rules.specs.declared.Verdict.TheVariants.{Fails};
-ghost use Rattle.rules.specs.Removal.{remove, removeOf, failIf};
+ghost use Rattle.rules.specs.Removal.{remove, remove_of, fail_if};
 ghost use Rattle.records.specs.Seen.{seen};
 ghost use Rattle.records.specs.Stage.{stage, ◌does◌};
-ghost use Rattle.places.specs.Layout.{size, venueOf, SameCounts};
-ghost use Rattle.removal.specs.Causes.{removePlace, verdictBy, verdictIn};
+ghost use Rattle.places.specs.Layout.{size, venue_of, SameCounts};
+ghost use Rattle.removal.specs.Causes.{remove_place, verdict_by, verdict_in};
 ghost use Rattle.places.specs.Requirements.{PlaceReady, PlacesReady};
 
 use rules::{Cause, Verdict};
@@ -13,7 +13,7 @@ use rules::{Cause, Verdict};
 // What stands at place n goes; a free place stays as it is.
 fn remove_place(numbers: &mut [u32], n: usize, cause: Cause, out: &mut [u8], at: usize) -> usize
     requires { PlaceReady numbers.old n 16 }
-    ensures result_after { stage (venueOf numbers.new) out.new result ≡ seen out.old at does removePlace n (Fails cause) (venueOf numbers.old) }
+    ensures result_after { stage (venue_of numbers.new) out.new result ≡ seen out.old at does remove_place n (Fails cause) (venue_of numbers.old) }
     ensures counts { SameCounts numbers.old numbers.new }
 {
     let l = places::legging_at(numbers, n);
@@ -28,7 +28,7 @@ fn remove_place(numbers: &mut [u32], n: usize, cause: Cause, out: &mut [u8], at:
 // The legging orders of one parent go.
 pub fn remove_of(numbers: &mut [u32], parent: u32, cause: Cause, out: &mut [u8], at: usize) -> usize
     requires { length numbers.old ≡ size }
-    ensures result_after { stage (venueOf numbers.new) out.new result ≡ seen out.old at does removeOf parent cause (venueOf numbers.old) }
+    ensures result_after { stage (venue_of numbers.new) out.new result ≡ seen out.old at does remove_of parent cause (venue_of numbers.old) }
     ensures counts { SameCounts numbers.old numbers.new }
 {
     let mut pos = at;
@@ -48,7 +48,7 @@ pub fn remove_of(numbers: &mut [u32], parent: u32, cause: Cause, out: &mut [u8],
 // The legging order at one place goes.
 pub fn remove_one(numbers: &mut [u32], n: usize, cause: Cause, out: &mut [u8], at: usize) -> usize
     requires { PlaceReady numbers.old n 16 }
-    ensures result_after { stage (venueOf numbers.new) out.new result ≡ seen out.old at does remove (λ m _. failIf (eqb m n) cause) (venueOf numbers.old) }
+    ensures result_after { stage (venue_of numbers.new) out.new result ≡ seen out.old at does remove (λ m _. fail_if (eqb m n) cause) (venue_of numbers.old) }
     ensures counts { SameCounts numbers.old numbers.new }
 {
     remove_place(numbers, n, cause, out, at)
@@ -64,7 +64,7 @@ pub fn remove_at(
     at: usize,
 ) -> usize
     requires { PlacesReady numbers.old n1 n2 16 }
-    ensures result_after { stage (venueOf numbers.new) out.new result ≡ seen out.old at does remove (λ n _. failIf (eqb n n1 || eqb n n2) cause) (venueOf numbers.old) }
+    ensures result_after { stage (venue_of numbers.new) out.new result ≡ seen out.old at does remove (λ n _. fail_if (eqb n n1 || eqb n n2) cause) (venue_of numbers.old) }
     ensures counts { SameCounts numbers.old numbers.new }
 {
     if n1 == n2 {
@@ -80,7 +80,7 @@ pub fn remove_at(
 
 // The verdict of a cause's number; Stands for every other number.
 pub fn verdict_by(x: u8) -> Verdict
-    ensures { result ≡ verdictBy x }
+    ensures { result ≡ verdict_by x }
 {
     if x == 1 {
         return Verdict::Fails(Cause::Worse);
@@ -115,7 +115,7 @@ pub fn verdict_by(x: u8) -> Verdict
 // The legging orders at the places that have a cause's number in `causes` go, each for that cause.
 pub fn remove_by_causes(numbers: &mut [u32], causes: u64, out: &mut [u8], at: usize) -> usize
     requires { length numbers.old ≡ size }
-    ensures result_after { stage (venueOf numbers.new) out.new result ≡ seen out.old at does remove (verdictIn causes) (venueOf numbers.old) }
+    ensures result_after { stage (venue_of numbers.new) out.new result ≡ seen out.old at does remove (verdict_in causes) (venue_of numbers.old) }
     ensures counts { SameCounts numbers.old numbers.new }
 {
     let mut pos = at;

@@ -11,17 +11,17 @@ use lib.ListN.{get_or, length, set}
 use borrow.Author.Tests.{eq-eqb, eqb-true}
 use Rattle.rules.specs.declared.Venue.{Venue}
 use Rattle.rules.specs.Base.{held, if◌then◌else◌}
-use Rattle.rules.specs.Words.{complexAt, isComplexOf, isRegularOf, noComplex, noRegular, regularAt, withComplex, withLegging, withRegular}
+use Rattle.rules.specs.Words.{complex_at, is_complex_of, is_regular_of, no_complex, no_regular, regular_at, with_complex, with_legging, with_regular}
 use Rattle.rules.specs.Removal.{remove}
-use Rattle.rules.specs.Standing.{showAgain}
-use Rattle.rules.specs.Trading.{fillComplex, fillRegular, lessComplex, lessRegular}
+use Rattle.rules.specs.Standing.{show_again}
+use Rattle.rules.specs.Trading.{fill_complex, fill_regular, less_complex, less_regular}
 use Rattle.rules.proofs.Again.{again-fewer}
 use Rattle.rules.proofs.Better.{is_false}
-use Rattle.rules.proofs.Filling.{Fewer, FewerC, cx, fewer-refl, fewerC-refl, fill-fewer, fill-fewerC, held_fits, held-fitsC, reg, still-held, still-heldC}
+use Rattle.rules.proofs.Filling.{Fewer, FewerC, cx, fewer-refl, fewer_c-refl, fill-fewer, fill-fewer_c, held_fits, held-fits_c, reg, still-held, still-held_c}
 use Rattle.rules.proofs.EffectsLaws.{Lasts}
 use Rattle.rules.proofs.Tests.{and_l, and_r}
 use Rattle.demands.proofs.Homes.{Good, good-rr, good-xx}
-use Rattle.replay.specs.Replay.{lessenComplex, lessenOrder}
+use Rattle.replay.specs.Replay.{lessen_complex, lessen_order}
 
 -- In a list -----------------------------------------------------------------------------------
 
@@ -64,37 +64,37 @@ good-apart g = record { orders = good-rr g; complexes = good-xx g; both = g.rx }
 apart-fewer : (v w : Venue) → Fewer w.regular v.regular → FewerC w.complex v.complex → Apart v → Apart w
 apart-fewer v w f g a = record {
   orders = λ i j h k e. a.orders i j (still-held (f.lesser i) h) (still-held (f.lesser j) k) (sym (f.lesser i).id ∙ e ∙ (f.lesser j).id);
-  complexes = λ i j h k e. a.complexes i j (still-heldC (g.lesser i) h) (still-heldC (g.lesser j) k) (sym (g.lesser i).id ∙ e ∙ (g.lesser j).id);
-  both = λ i j h k e. a.both i j (still-held (f.lesser i) h) (still-heldC (g.lesser j) k) (sym (f.lesser i).id ∙ e ∙ (g.lesser j).id);
+  complexes = λ i j h k e. a.complexes i j (still-held_c (g.lesser i) h) (still-held_c (g.lesser j) k) (sym (g.lesser i).id ∙ e ∙ (g.lesser j).id);
+  both = λ i j h k e. a.both i j (still-held (f.lesser i) h) (still-held_c (g.lesser j) k) (sym (f.lesser i).id ∙ e ∙ (g.lesser j).id);
 }
 
 pub apart-lasts : Lasts Apart
 apart-lasts = record {
-  fillR = λ i k v a. apart-fewer v (fillRegular i k v) (fill-fewer i k v) (unfold fillRegular withRegular in (fewerC-refl _)) a;
-  fillC = λ i k v a. apart-fewer v (fillComplex i k v) (unfold fillComplex withComplex in (fewer-refl _)) (fill-fewerC i k v) a;
-  gone = λ f v a. unfold remove withLegging in (record { orders = a.orders; complexes = a.complexes; both = a.both });
-  again = λ v a. apart-fewer v (showAgain v) (again-fewer v) (unfold showAgain withRegular in (fewerC-refl _)) a;
+  fill_r = λ i k v a. apart-fewer v (fill_regular i k v) (fill-fewer i k v) (unfold fill_regular with_regular in (fewer_c-refl _)) a;
+  fill_c = λ i k v a. apart-fewer v (fill_complex i k v) (unfold fill_complex with_complex in (fewer-refl _)) (fill-fewer_c i k v) a;
+  gone = λ f v a. unfold remove with_legging in (record { orders = a.orders; complexes = a.complexes; both = a.both });
+  again = λ v a. apart-fewer v (show_again v) (again-fewer v) (unfold show_again with_regular in (fewer_c-refl _)) a;
 }
 
 -- In a venue ----------------------------------------------------------------------------------
 
-pub lessen-order : (v : Venue) → Apart v → (i k : ℕ) → held (reg v i).quantity ≡ true → lessenOrder (reg v i).id k v ≡ fillRegular i k v
-unfolding lessenOrder fillRegular isRegularOf regularAt
+pub lessen-order : (v : Venue) → Apart v → (i k : ℕ) → held (reg v i).quantity ≡ true → lessen_order (reg v i).id k v ≡ fill_regular i k v
+unfolding lessen_order fill_regular is_regular_of regular_at
 lessen-order v a i k h =
-    ap (withRegular v) (lessened-one noRegular (λ o. o.id) (λ o. o.quantity) (lessRegular k) (reg v i).id v.regular i (held_fits v.regular i h) h refl (λ j q e. a.orders j i q h e))
+    ap (with_regular v) (lessened-one no_regular (λ o. o.id) (λ o. o.quantity) (less_regular k) (reg v i).id v.regular i (held_fits v.regular i h) h refl (λ j q e. a.orders j i q h e))
 
-pub lessen-complex : (v : Venue) → Apart v → (i k : ℕ) → held (cx v i).quantity ≡ true → lessenComplex (cx v i).id k v ≡ fillComplex i k v
-unfolding lessenComplex fillComplex isComplexOf complexAt
+pub lessen-complex : (v : Venue) → Apart v → (i k : ℕ) → held (cx v i).quantity ≡ true → lessen_complex (cx v i).id k v ≡ fill_complex i k v
+unfolding lessen_complex fill_complex is_complex_of complex_at
 lessen-complex v a i k h =
-    ap (withComplex v) (lessened-one noComplex (λ c. c.id) (λ c. c.quantity) (lessComplex k) (cx v i).id v.complex i (held-fitsC v.complex i h) h refl (λ j q e. a.complexes j i q h e))
+    ap (with_complex v) (lessened-one no_complex (λ c. c.id) (λ c. c.quantity) (less_complex k) (cx v i).id v.complex i (held-fits_c v.complex i h) h refl (λ j q e. a.complexes j i q h e))
 
 -- the id of a resting complex order is no regular order's
-pub lessen-no-order : (v : Venue) → Apart v → (j k : ℕ) → held (cx v j).quantity ≡ true → lessenOrder (cx v j).id k v ≡ v
-unfolding lessenOrder isRegularOf withRegular
+pub lessen-no-order : (v : Venue) → Apart v → (j k : ℕ) → held (cx v j).quantity ≡ true → lessen_order (cx v j).id k v ≡ v
+unfolding lessen_order is_regular_of with_regular
 lessen-no-order v a j k h =
-    ap (withRegular v) (lessened-none noRegular (λ o. o.id) (λ o. o.quantity) (lessRegular k) (cx v j).id v.regular (λ i q. a.both i j q h))
+    ap (with_regular v) (lessened-none no_regular (λ o. o.id) (λ o. o.quantity) (less_regular k) (cx v j).id v.regular (λ i q. a.both i j q h))
 
 -- an id that no resting complex order has
-pub lessen-no-complex : (v : Venue) (id k : ℕ) → ((j : ℕ) → held (cx v j).quantity ≡ true → (cx v j).id ≢ id) → lessenComplex id k v ≡ v
-unfolding lessenComplex isComplexOf withComplex
-lessen-no-complex v id k n = ap (withComplex v) (lessened-none noComplex (λ c. c.id) (λ c. c.quantity) (lessComplex k) id v.complex n)
+pub lessen-no-complex : (v : Venue) (id k : ℕ) → ((j : ℕ) → held (cx v j).quantity ≡ true → (cx v j).id ≢ id) → lessen_complex id k v ≡ v
+unfolding lessen_complex is_complex_of with_complex
+lessen-no-complex v id k n = ap (with_complex v) (lessened-none no_complex (λ c. c.id) (λ c. c.quantity) (less_complex k) id v.complex n)

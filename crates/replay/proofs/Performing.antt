@@ -14,32 +14,32 @@ use Rattle.rules.specs.declared.Message.TheVariants.{Away, Cancel, Increment, Li
 use Rattle.rules.specs.declared.Regular.{Regular}
 use Rattle.rules.specs.declared.Venue.{Venue}
 use Rattle.rules.specs.Base.{held}
-use Rattle.rules.specs.Words.{complexAt, isComplexOf, isPrice, isRegularOf, noComplex, noRegular, regularAt, withComplex, withGenerations, with_last, withLegging, withReached, withRegular, within}
+use Rattle.rules.specs.Words.{complex_at, is_complex_of, is_price, is_regular_of, no_complex, no_regular, regular_at, with_complex, with_generations, with_last, with_legging, with_reached, with_regular, within}
 use Rattle.rules.specs.Records.{cancelled, looked}
 use Rattle.rules.specs.Effects.{Effect, ◌⟫◌, report}
-use Rattle.rules.specs.Removal.{removeOf}
-use Rattle.rules.specs.Standing.{settle, showAgain, verdict}
-use Rattle.rules.specs.Trading.{fillComplex, fillRegular, freeComplex, freeRegular, putComplex, putRegular}
-use Rattle.rules.specs.Order.{enterRegular, order}
+use Rattle.rules.specs.Removal.{remove_of}
+use Rattle.rules.specs.Standing.{settle, show_again, verdict}
+use Rattle.rules.specs.Trading.{fill_complex, fill_regular, free_complex, free_regular, put_complex, put_regular}
+use Rattle.rules.specs.Order.{enter_regular, order}
 use Rattle.rules.specs.Generation.{generate}
-use Rattle.rules.specs.Complex.{cancel, cancelComplex, cancelRegular, complex, complexPlace, eachOf, examined, goingRound, idReached}
-use Rattle.rules.specs.Complex.{limitedSweep, regularPlace, restingPlaces, restsComplex, restsRegular, sweep, work}
-use Rattle.rules.specs.Refusals.{full, idTooLow, regularInRange, unknown}
+use Rattle.rules.specs.Complex.{cancel, cancel_complex, cancel_regular, complex, complex_place, each_of, examined, going_round, id_reached}
+use Rattle.rules.specs.Complex.{limited_sweep, regular_place, resting_places, rests_complex, rests_regular, sweep, work}
+use Rattle.rules.specs.Refusals.{full, id_too_low, regular_in_range, unknown}
 use Rattle.rules.specs.Step.{perform}
 use Rattle.rules.proofs.Cases.{if-by}
 use Rattle.rules.proofs.Filling.{cx, fill-complex, reg}
 use Rattle.rules.proofs.Finding.{where-passes}
-use Rattle.rules.proofs.RefusalsLaws.{Passed, wellFormed}
+use Rattle.rules.proofs.RefusalsLaws.{Passed, well_formed}
 use Rattle.rules.proofs.Tests.{and_l, and_r, or_r}
 use Rattle.rules.proofs.Traffic.{looked-each, resting-each}
 use Rattle.rules.proofs.Widths.{Ranged, set-each}
-use Rattle.demands.proofs.Admitting.{Joins, JoinsC, complex-admitted, order-admitted, order-ready, withComplexOrder, withOrder}
+use Rattle.demands.proofs.Admitting.{Joins, JoinsC, complex-admitted, order-admitted, order-ready, with_complex_order, with_order}
 use Rattle.demands.proofs.Homes.{Fine, Invariant, after-complex, homes_same}
 use Rattle.demands.proofs.Messages.{order-joins}
 use Rattle.demands.proofs.SoundnessLaws.{range-of}
-use Rattle.replay.specs.Replay.{State, entered, lessenComplex, lessenOrder, lookedAt, next, noted}
+use Rattle.replay.specs.Replay.{State, entered, lessen_complex, lessen_order, looked_at, next, noted}
 use Rattle.replay.proofs.TellsLaws.{Tells, TellsFrom, from_then, tells-report, tells-then}
-use Rattle.replay.proofs.Placing.{Places, likened, places-eachOf, places-generate, places-remove, tells-remove}
+use Rattle.replay.proofs.Placing.{Places, likened, places-each_of, places-generate, places-remove, tells-remove}
 use Rattle.replay.proofs.Lessening.{Apart, good-apart, lessen-complex, lessen-no-complex, lessen-no-order, lessen-order}
 use Rattle.replay.proofs.Passing.{Positive}
 use Rattle.replay.proofs.Arriving.{Arrives, tells-matching}
@@ -50,18 +50,18 @@ use Rattle.replay.proofs.Working.{tells-sweep, tells-work}
 -- the records of the effect e on u, in the message of a number, lead to the venue `left`, which is what e leaves except that its orders have not shown again
 pub record Ends (number : ℕ) (u : Venue) (e : Effect) : Type 0 where
   pub left : Venue
-  pub shows : e.venue ≡ showAgain left
+  pub shows : e.venue ≡ show_again left
   pub tells : (x : State) → x.number ≡ number → TellsFrom x u (record { venue = left; reports = e.reports })
 
 module _ {number : ℕ} where
   -- legging places and generations alone change after orders have shown again
-  ends-places : (u : Venue) (g : Effect) → Places number (showAgain u) g → Ends number u g
-  unfolding showAgain withRegular likened withLegging withGenerations
+  ends-places : (u : Venue) (g : Effect) → Places number (show_again u) g → Ends number u g
+  unfolding show_again with_regular likened with_legging with_generations
   ends-places u g p = record { left = likened u g.venue; shows = p.keeps; tells = p.tells u }
 
   ends-settle : (u : Venue) → Ends number u (settle u)
   unfolding settle
-  ends-settle u = ends-places u (settle u) (places-remove number (verdict (showAgain u)) (showAgain u))
+  ends-settle u = ends-places u (settle u) (places-remove number (verdict (show_again u)) (show_again u))
 
   -- first what the records say, and then what ends
   ends-then : (u : Venue) (e : Effect) (f : Venue → Effect) → Tells u e → Ends number e.venue (f e.venue) → Ends number u (e ⟫ f)
@@ -85,39 +85,39 @@ module _ {number : ℕ} where
 
 -- Cancel --------------------------------------------------------------------------------------
 
-next-cancelled : (id q : ℕ) (v w : Venue) → lessenComplex id q (lessenOrder id q v) ≡ w → (x : State) → next (cancelled id q) (noted x v) ≡ noted x w
+next-cancelled : (id q : ℕ) (v w : Venue) → lessen_complex id q (lessen_order id q v) ≡ w → (x : State) → next (cancelled id q) (noted x v) ≡ noted x w
 unfolding next noted
 next-cancelled id q v w e x = ap (noted x) e
 
 module _ (v : Venue) (a : Apart v) where
-  tells-cancelRegular : (i : ℕ) → held (reg v i).quantity ≡ true → Tells v (cancelRegular i v)
-  unfolding cancelRegular regularAt
-  tells-cancelRegular i h =
+  tells-cancel_regular : (i : ℕ) → held (reg v i).quantity ≡ true → Tells v (cancel_regular i v)
+  unfolding cancel_regular regular_at
+  tells-cancel_regular i h =
       let o = reg v i in
-      let w = fillRegular i o.quantity v in
+      let w = fill_regular i o.quantity v in
       tells-report _ v _
       (next-cancelled o.id o.quantity v w
-      (ap (lessenComplex o.id o.quantity) (lessen-order v a i o.quantity h)
+      (ap (lessen_complex o.id o.quantity) (lessen-order v a i o.quantity h)
       ∙ lessen-no-complex w o.id o.quantity (λ j q e. a.both i j h (rw (fill-complex i o.quantity v) at q) (sym (rw (fill-complex i o.quantity v) at e))))) tt
 
-  tells-cancelComplex : (i : ℕ) → held (cx v i).quantity ≡ true → Tells v (cancelComplex i v)
-  unfolding cancelComplex complexAt removeOf
-  tells-cancelComplex i h =
+  tells-cancel_complex : (i : ℕ) → held (cx v i).quantity ≡ true → Tells v (cancel_complex i v)
+  unfolding cancel_complex complex_at remove_of
+  tells-cancel_complex i h =
       let c = cx v i in
       tells-then v _ _
       (tells-report _ v _
-      (next-cancelled c.id c.quantity v (fillComplex i c.quantity v)
-      (ap (lessenComplex c.id c.quantity) (lessen-no-order v a i c.quantity h) ∙ lessen-complex v a i c.quantity h)) tt)
+      (next-cancelled c.id c.quantity v (fill_complex i c.quantity v)
+      (ap (lessen_complex c.id c.quantity) (lessen-no-order v a i c.quantity h) ∙ lessen-complex v a i c.quantity h)) tt)
       (tells-remove _ _)
 
-  ends-cancel : {number : ℕ} (id : ℕ) → (restsRegular v id || restsComplex v id) ≡ true → Ends number v (cancel id v)
+  ends-cancel : {number : ℕ} (id : ℕ) → (rests_regular v id || rests_complex v id) ≡ true → Ends number v (cancel id v)
   unfolding cancel
   ends-cancel id h =
       ends-then v _ settle
-      (if-by (Tells v) (restsRegular v id)
-      (λ e. tells-cancelRegular (regularPlace v id) (unfold restsRegular isRegularOf regularAt in (and_l (held (reg v (regularPlace v id)).quantity) (eqb (reg v (regularPlace v id)).id id) e)))
-      (λ e. tells-cancelComplex (complexPlace v id)
-      (unfold restsComplex isComplexOf complexAt in (and_l (held (cx v (complexPlace v id)).quantity) (eqb (cx v (complexPlace v id)).id id) (or_r (restsRegular v id) _ e h)))))
+      (if-by (Tells v) (rests_regular v id)
+      (λ e. tells-cancel_regular (regular_place v id) (unfold rests_regular is_regular_of regular_at in (and_l (held (reg v (regular_place v id)).quantity) (eqb (reg v (regular_place v id)).id id) e)))
+      (λ e. tells-cancel_complex (complex_place v id)
+      (unfold rests_complex is_complex_of complex_at in (and_l (held (cx v (complex_place v id)).quantity) (eqb (cx v (complex_place v id)).id id) (or_r (rests_regular v id) _ e h)))))
       (ends-settle _)
 
 -- A limited sweep's 72 ------------------------------------------------------------------------
@@ -128,12 +128,12 @@ firsts-there zero l = rw (zero-min (length l))
 firsts-there (suc n) [] = rw (min-zero (suc n))
 firsts-there (suc n) (i ∷ l) = rw (suc-min-suc n (length l), firsts-there n l)
 
-tells-looked : (n : ℕ) (v : Venue) → Tells v (report (looked (examined n v)) (withReached v (idReached v (take n (goingRound v)))))
+tells-looked : (n : ℕ) (v : Venue) → Tells v (report (looked (examined n v)) (with_reached v (id_reached v (take n (going_round v)))))
 unfolding examined
-tells-looked n v = tells-report _ v _ (λ x. unfold next noted lookedAt in (ap (λ (l : List ℕ). noted x (withReached v (idReached v l))) (firsts-there n (goingRound v)))) tt
+tells-looked n v = tells-report _ v _ (λ x. unfold next noted looked_at in (ap (λ (l : List ℕ). noted x (with_reached v (id_reached v l))) (firsts-there n (going_round v)))) tt
 
-fine-reached : (x : ℕ) (v : Venue) → Fine v → Fine (withReached v x)
-unfolding withReached
+fine-reached : (x : ℕ) (v : Venue) → Fine v → Fine (with_reached v x)
+unfolding with_reached
 fine-reached x v f = record {
   good = record {
     len1 = f.good.len1;
@@ -150,8 +150,8 @@ fine-reached x v f = record {
 
 -- Orders --------------------------------------------------------------------------------------
 
-range-priced : (o : Regular) → regularInRange o ≡ true → 0 < o.price
-unfolding regularInRange isPrice within
+range-priced : (o : Regular) → regular_in_range o ≡ true → 0 < o.price
+unfolding regular_in_range is_price within
 range-priced o h = leb-true 1 o.price (search (and_l, and_r, h) depth 12)
 
 ranged-priced : (v : Venue) → Ranged v → Positive v
@@ -163,70 +163,70 @@ module _ (v : Venue) (k : Invariant v) (number : ℕ) where
 
   module _ (o : Regular) (p : Passed v (Order o)) where
     abbrev i : ℕ
-    i = freeRegular v
+    i = free_regular v
 
     joins : Joins v o i
     joins = order-joins v k.fine k.tidy o p
 
-    arrives : Arrives i o.series o.side (withOrder v o i)
+    arrives : Arrives i o.series o.side (with_order v o i)
     arrives = record {
       fine = (order-admitted v o i joins).fine;
       ready = order-ready v o i joins k.stand;
-      priced = unfold withRegular with_last in
-          (set-each (λ (x : Regular). held x.quantity ≡ true → 0 < x.price) noRegular v.regular i o
-          (λ _. range-priced o (unfold wellFormed in p.range)) some);
+      priced = unfold with_regular with_last in
+          (set-each (λ (x : Regular). held x.quantity ≡ true → 0 < x.price) no_regular v.regular i o
+          (λ _. range-priced o (unfold well_formed in p.range)) some);
     }
 
     ends-order : Ends number (entered number (Order o) v) (perform number (Order o) v)
-    unfolding entered perform order enterRegular putRegular freeRegular with_last
-    ends-order = ends-then (withOrder v o i) _ settle (tells-matching i o.series o.side o.quantity (withOrder v o i) arrives) (ends-settle _)
+    unfolding entered perform order enter_regular put_regular free_regular with_last
+    ends-order = ends-then (with_order v o i) _ settle (tells-matching i o.series o.side o.quantity (with_order v o i) arrives) (ends-settle _)
 
   module _ (c : Complex) (p : Passed v (TwoLeg c)) where
     abbrev j : ℕ
-    j = freeComplex v
+    j = free_complex v
 
-    joinsC : JoinsC v c j
-    joinsC =
-        let there : j < 32 = unfold full in (leb-false 32 (freeComplex v) p.room) in
-        let free : held (cx v j).quantity ≡ false = unfold freeComplex in
-        (not-true _ (where-passes noComplex (λ x. not (held x.quantity)) v.complex
-        (unfold freeComplex in (rw k.fine.good.len2 there)))) in
+    joins_c : JoinsC v c j
+    joins_c =
+        let there : j < 32 = unfold full in (leb-false 32 (free_complex v) p.room) in
+        let free : held (cx v j).quantity ≡ false = unfold free_complex in
+        (not-true _ (where-passes no_complex (λ x. not (held x.quantity)) v.complex
+        (unfold free_complex in (rw k.fine.good.len2 there)))) in
         record {
           fine = k.fine;
-          range = range-of c (unfold wellFormed in p.range);
-          new = unfold idTooLow in (leb-false c.id v.last p.fresh-id);
+          range = range-of c (unfold well_formed in p.range);
+          new = unfold id_too_low in (leb-false c.id v.last p.fresh-id);
           there = there;
           free = free;
           behind = after-complex k.tidy j free;
         }
 
     abbrev w : Venue
-    w = withComplexOrder v c j
+    w = with_complex_order v c j
 
     ends-complex : Ends number (entered number (TwoLeg c) v) (perform number (TwoLeg c) v)
-    unfolding entered perform complex putComplex freeComplex with_last withComplex
+    unfolding entered perform complex put_complex free_complex with_last with_complex
     ends-complex =
         ends_more w (work j w ⟫ settle) (generate number j)
-        (ends-then w (work j w) settle (tells-work j joinsC.there w (complex-admitted v c j joinsC).fine some) (ends-settle _))
+        (ends-then w (work j w) settle (tells-work j joins_c.there w (complex-admitted v c j joins_c).fine some) (ends-settle _))
         (places-generate number j _)
 
   ends-sweep : Ends number v (sweep number v)
   unfolding sweep
   ends-sweep =
-      let places = restingPlaces v in
+      let places = resting_places v in
       let low = resting-each (λ i. i < 32) v (λ j l _. (let e = k.fine.good.len2 in omega arith)) in
-      ends_more v (eachOf work places v ⟫ settle) (eachOf (generate number) places)
-      (ends-then v (eachOf work places v) settle (tells-sweep places low v k.fine some) (ends-settle _)) (places-eachOf number places _)
+      ends_more v (each_of work places v ⟫ settle) (each_of (generate number) places)
+      (ends-then v (each_of work places v) settle (tells-sweep places low v k.fine some) (ends-settle _)) (places-each_of number places _)
 
-  ends-limited : (n : ℕ) → Ends number v (limitedSweep number n v)
-  unfolding limitedSweep report withReached
+  ends-limited : (n : ℕ) → Ends number v (limited_sweep number n v)
+  unfolding limited_sweep report with_reached
   ends-limited n =
-      let places = take n (goingRound v) in
-      let u = withReached v (idReached v places) in
+      let places = take n (going_round v) in
+      let u = with_reached v (id_reached v places) in
       let low = looked-each (λ i. i < 32) n v (λ j l _. (let e = k.fine.good.len2 in omega arith)) in
-      ends_more v _ (eachOf (generate number) places)
-      (ends-then v _ settle (tells-then v (report (looked (examined n v)) u) (eachOf work places) (tells-looked n v) (tells-sweep places low u (fine-reached _ v k.fine) some)) (ends-settle _))
-      (places-eachOf number places _)
+      ends_more v _ (each_of (generate number) places)
+      (ends-then v _ settle (tells-then v (report (looked (examined n v)) u) (each_of work places) (tells-looked n v) (tells-sweep places low u (fine-reached _ v k.fine) some)) (ends-settle _))
+      (places-each_of number places _)
 
   -- Every message
   pub performs : (m : Message) → Passed v m → Ends number (entered number m v) (perform number m v)

@@ -7,13 +7,13 @@ use lib.Dec.{eqb}
 use borrow.Author.Tests.{eqb-true}
 use Rattle.rules.specs.declared.Venue.{Venue}
 use Rattle.rules.specs.Base.{if◌then◌else◌}
-use Rattle.rules.specs.Words.{freshVenue}
-use Rattle.rules.specs.Messages.{messageOf}
+use Rattle.rules.specs.Words.{fresh_venue}
+use Rattle.rules.specs.Messages.{message_of}
 use Rattle.rules.specs.Records.{FourBytes, Report, answer}
 use Rattle.rules.specs.Effects.{Effect, ◌⟫◌, nothing}
-use Rattle.rules.specs.Places.{closeGaps}
+use Rattle.rules.specs.Places.{close_gaps}
 use Rattle.rules.specs.Refusals.{refusal}
-use Rattle.rules.specs.Sound.{complexesSound, regularsSound, sound}
+use Rattle.rules.specs.Sound.{complexes_sound, regulars_sound, sound}
 use Rattle.rules.specs.Step.{accept, answered, perform, step}
 use Rattle.rules.proofs.Arranging.{closed_same}
 use Rattle.rules.proofs.RefusalsLaws.{accepted}
@@ -25,7 +25,7 @@ use Rattle.demands.proofs.Account.{onto}
 use Rattle.demands.proofs.Induction.{all_keep}
 use Rattle.demands.proofs.SoundnessLaws.{sound-out}
 use Rattle.demands.proofs.Truth.{Told, more-told, start-told}
-use Rattle.replay.specs.Replay.{Replays, State, afterAnswer, entered, finished, next, noted, replay, upon}
+use Rattle.replay.specs.Replay.{Replays, State, after_answer, entered, finished, next, noted, replay, upon}
 use Rattle.replay.specs.Moments.{AtEach, NoBetterPassedOver}
 use Rattle.replay.proofs.TellsLaws.{each_append, replay-append}
 use Rattle.replay.proofs.Performing.{performs}
@@ -37,9 +37,9 @@ finished-same : (v : Venue) → SoundVenue v → finished v ≡ v
 unfolding finished sound
 finished-same v s =
     let z = s.is in
-    let r : regularsSound v ≡ true = search (and_l, and_r, z) depth 12 in
-    let c : complexesSound v ≡ true = search (and_l, and_r, z) depth 12 in
-    ap closeGaps (again-same v (sound-out v s).showing) ∙ closed_same v r c
+    let r : regulars_sound v ≡ true = search (and_l, and_r, z) depth 12 in
+    let c : complexes_sound v ≡ true = search (and_l, and_r, z) depth 12 in
+    ap close_gaps (again-same v (sound-out v s).showing) ∙ closed_same v r c
 
 -- from the state x, an effect's records lead to the venue that it leaves, with the messages ns still to come, and each is as claimed at its moment
 record Follows (x : State) (e : Effect) (ns : List (List ℕ)) : Type 0 where
@@ -53,14 +53,14 @@ during number v ns = record { books = v; number = number; messages = ns }
 
 -- the effects of an accepted message, from the books with what it brings
 accepts : (number : ℕ) (v : Venue) (bs : List ℕ) → SoundVenue v → refusal v bs ≡ 0 → (ns : List (List ℕ)) →
-    Follows (during number (entered number (messageOf bs) v) ns) (accept number (messageOf bs) v) ns
+    Follows (during number (entered number (message_of bs) v) ns) (accept number (message_of bs) v) ns
 unfolding accept nothing ◌⟫◌ noted
 accepts number v bs s h ns =
-    let m = messageOf bs in
+    let m = message_of bs in
     let e = performs v (sound-out v s) number m (accepted v bs h) in
     let t = e.tells (during number v ns) refl in
     rw (append-nil (perform number m v).reports) (record {
-      venue = ap (λ (y : State). finished y.books) t.replays ∙ (unfold finished noted in (ap closeGaps (sym e.shows)));
+      venue = ap (λ (y : State). finished y.books) t.replays ∙ (unfold finished noted in (ap close_gaps (sym e.shows)));
       messages = ap (λ (y : State). y.messages) t.replays ∙ (unfold noted in refl);
       moments = t.moments;
     })
@@ -72,11 +72,11 @@ refuses number v s ns = record { venue = finished-same v s; messages = refl; mom
 
 -- its 64 begins it
 begins : (x : State) (v : Venue) (bs : List ℕ) (ns : List (List ℕ)) → finished x.books ≡ v → x.messages ≡ bs ∷ ns → (number r : ℕ) →
-    afterAnswer number r x ≡ during number (if eqb r 0 then entered number (messageOf bs) v else v) ns
-unfolding afterAnswer
+    after_answer number r x ≡ during number (if eqb r 0 then entered number (message_of bs) v else v) ns
+unfolding after_answer
 begins x v bs ns e q number r = rw (e, q)
 
-follows-answer : (x : State) (number r m c : ℕ) (e : Effect) (ns : List (List ℕ)) → Follows (afterAnswer number r x) e ns →
+follows-answer : (x : State) (number r m c : ℕ) (e : Effect) (ns : List (List ℕ)) → Follows (after_answer number r x) e ns →
     Follows x (record { venue = e.venue; reports = answer number r m c ∷ e.reports }) ns
 unfolding replay next
 follows-answer x number r m c e ns f = record { venue = f.venue; messages = f.messages; moments = (tt, f.moments) }
@@ -86,11 +86,11 @@ follows-step : (x : State) (v : Venue) → SoundVenue v → finished x.books ≡
 unfolding step answered
 follows-step x v s e number bs ns q =
     follows-answer x number (refusal v bs) _ _ _ ns
-    (subst (λ (y : State). Follows y (if eqb (refusal v bs) 0 then accept number (messageOf bs) v else nothing v) ns) (sym (begins x v bs ns e q number (refusal v bs)))
+    (subst (λ (y : State). Follows y (if eqb (refusal v bs) 0 then accept number (message_of bs) v else nothing v) ns) (sym (begins x v bs ns e q number (refusal v bs)))
     (go (eqb (refusal v bs) 0) refl))
   where
     go : (b : Bool) → eqb (refusal v bs) 0 ≡ b →
-        Follows (during number (if b then entered number (messageOf bs) v else v) ns) (if b then accept number (messageOf bs) v else nothing v) ns
+        Follows (during number (if b then entered number (message_of bs) v else v) ns) (if b then accept number (message_of bs) v else nothing v) ns
     go true h = accepts number v bs s (eqb-true (refusal v bs) 0 h) ns
     go false h = refuses number v s ns
 
@@ -99,11 +99,11 @@ follows-step x v s e number bs ns q =
 -- so far, whatever messages come next
 record Sheet (s : Seen) : Type 0 where
   told : Told s
-  follows : (ns : List (List ℕ)) → Follows (upon freshVenue (s.messages ++ ns)) (record { venue = s.venue; reports = s.reports }) ns
+  follows : (ns : List (List ℕ)) → Follows (upon fresh_venue (s.messages ++ ns)) (record { venue = s.venue; reports = s.reports }) ns
 
 start-sheet : Sheet start
 unfolding start
-start-sheet = record { told = start-told; follows = λ ns. unfold nothing upon in (refuses 0 freshVenue start-told.sound.venue ns) }
+start-sheet = record { told = start-told; follows = λ ns. unfold nothing upon in (refuses 0 fresh_venue start-told.sound.venue ns) }
 
 -- records joined
 follows_then : (x : State) (v : Venue) (a : List Report) (e : Effect) (ms ns : List (List ℕ)) → Follows x (record { venue = v; reports = a }) ms →
@@ -123,7 +123,7 @@ more-sheet s bs h few = record {
   told = unfold onto in (more-told s bs h.told few);
   follows = λ ns.
       rw (append_assoc s.messages (bs ∷ []) ns)
-      (follows_then (upon freshVenue (s.messages ++ (bs ∷ ns))) s.venue s.reports (step s.venue (suc s.done) bs).effect (bs ∷ ns) ns (h.follows (bs ∷ ns))
+      (follows_then (upon fresh_venue (s.messages ++ (bs ∷ ns))) s.venue s.reports (step s.venue (suc s.done) bs).effect (bs ∷ ns) ns (h.follows (bs ∷ ns))
       (λ y e q. follows-step y s.venue h.told.sound.venue e (suc s.done) bs ns q));
 }
 
@@ -138,7 +138,7 @@ one-message v s number bs = follows-step (upon v (bs ∷ [])) v s (finished-same
 
 whole-sheet : (o : Opening) (cs : List Later) →
     let s = calls (opening o) cs in
-    Follows (upon freshVenue s.messages) (record { venue = s.venue; reports = s.reports }) []
+    Follows (upon fresh_venue s.messages) (record { venue = s.venue; reports = s.reports }) []
 whole-sheet o cs = rw (append-nil (calls (opening o) cs).messages) at ((all-sheets o cs).follows [])
 
 pub replays : Replays

@@ -6,7 +6,7 @@ use Prim.Native.Nat.{◌<◌, suc, zero, ℕ}
 use Rattle.rules.specs.declared.Venue.{Venue}
 use Rattle.rules.specs.Records.{Report}
 use Rattle.rules.specs.Effects.{Effect, Turn, ◌⟫◌, ended, nothing, repeat, report, turned}
-use Rattle.rules.specs.Complex.{eachOf}
+use Rattle.rules.specs.Complex.{each_of}
 use Rattle.rules.proofs.Cases.{repeat-by}
 use Rattle.rules.proofs.Traffic.{Each}
 use Rattle.replay.specs.Replay.{State, next, noted, replay}
@@ -78,9 +78,9 @@ tells-repeat P turn ok (suc fuel) v h =
     (λ e is. let k = subst (TellsTurn P v) is (ok v h) in tells-then v e _ k.0 (tells-repeat P turn ok fuel _ k.1))
 
 -- f for the order at each of these places
-pub tells-eachOf : (P : Venue → Type 0) (f : ℕ → Venue → Effect) →
+pub tells-each_of : (P : Venue → Type 0) (f : ℕ → Venue → Effect) →
     ((i : ℕ) (v : Venue) → i < 32 → P v → Tells v (f i v) × P (f i v).venue) →
-    (places : List ℕ) → Each (λ i. i < 32) places → (v : Venue) → P v → Tells v (eachOf f places v)
-unfolding eachOf
-tells-eachOf P f ok [] low v h = tells-nothing v
-tells-eachOf P f ok (i ∷ places) low v h = let k = ok i v low.0 h in tells-then v (f i v) _ k.0 (tells-eachOf P f ok places low.1 _ k.1)
+    (places : List ℕ) → Each (λ i. i < 32) places → (v : Venue) → P v → Tells v (each_of f places v)
+unfolding each_of
+tells-each_of P f ok [] low v h = tells-nothing v
+tells-each_of P f ok (i ∷ places) low v h = let k = ok i v low.0 h in tells-then v (f i v) _ k.0 (tells-each_of P f ok places low.1 _ k.1)

@@ -1,32 +1,32 @@
 -- The witness, by computation.
 use mathlib.Core.Path.{refl}
 use Rattle.rules.specs.Opened.{opened-rules}
-use Rattle.demands.specs.Demand.{callUpon, calls, extend, givenTo, opening, parts, start}
+use Rattle.demands.specs.Demand.{call_upon, calls, extend, given_to, opening, parts, start}
 use Rattle.witness.specs.Witness.{bytes_of}
-use Rattle.replay.specs.Replay.{afterAnswer, entered, finished, lessenComplex, lessenOrder, lookedAt, next, noted, replay, upon}
-use Rattle.replay.specs.Witness.{Witness, before, recordAt, seen, session}
+use Rattle.replay.specs.Replay.{after_answer, entered, finished, lessen_complex, lessen_order, looked_at, next, noted, replay, upon}
+use Rattle.replay.specs.Witness.{Witness, before, record_at, seen, session}
 
 pub witness : Witness
-unfolding opened-rules bytes_of session seen recordAt before start extend parts opening calls callUpon givenTo afterAnswer entered finished lessenComplex lessenOrder lookedAt next noted replay upon
+unfolding opened-rules bytes_of session seen record_at before start extend parts opening calls call_upon given_to after_answer entered finished lessen_complex lessen_order looked_at next noted replay upon
 witness = record {
   hit = refl;
-  hitLegging = refl;
-  hitMaker = refl;
-  hitBehind = refl;
-  hitOther = refl;
-  hitAfter = refl;
-  hitGone = refl;
+  hit_legging = refl;
+  hit_maker = refl;
+  hit_behind = refl;
+  hit_other = refl;
+  hit_after = refl;
+  hit_gone = refl;
   reserve = refl;
-  reserveLeft = refl;
-  reserveWorse = refl;
-  reserveTaker = refl;
+  reserve_left = refl;
+  reserve_worse = refl;
+  reserve_taker = refl;
   cross = refl;
-  crossBids = refl;
-  crossOffers = refl;
+  cross_bids = refl;
+  cross_offers = refl;
   looks = refl;
-  looksFrom = refl;
-  looksAt = refl;
+  looks_from = refl;
+  looks_at = refl;
   makes = refl;
-  madeBefore = refl;
-  madeAfter = refl;
+  made_before = refl;
+  made_after = refl;
 }

@@ -4,9 +4,9 @@
 use Rattle.std.specs.Prelude.{◌≡◌, false, true, ◌≢◌, List, [], ◌∷◌, ◌≤◌, ℕ, ℤ, neg_ℤ}
 use Rattle.rules.specs.declared.Venue.{Venue}
 use Rattle.rules.specs.Base.{held}
-use Rattle.rules.specs.Words.{complexAt, freshVenue, isComplexOf, isRegularOf, leggingAt, opposite, regularAt}
+use Rattle.rules.specs.Words.{complex_at, fresh_venue, is_complex_of, is_regular_of, legging_at, opposite, regular_at}
 use Rattle.rules.specs.Records.{Report, answer, cancelled, crossed, generated, looked, pair, removed, trade}
-use Rattle.rules.specs.Prices.{better, ownPrice, restsAt, shownSize, showsAt}
+use Rattle.rules.specs.Prices.{better, own_price, rests_at, shown_size, shows_at}
 use Rattle.rules.specs.Step.{step}
 use Rattle.demands.specs.Crosses.{Respects}
 use Rattle.demands.specs.Demand.{Later, Opening, calls, opening}
@@ -19,21 +19,21 @@ use Rattle.replay.specs.Replay.{State, next, upon}
 -- or the complex order of the legging order that stands there.
 -- rule: (i)1
 pub data MakerStands (v : Venue) (s e p k maker : ℕ) : Type 0 where
-  resting : (i : ℕ) → restsAt s e (regularAt v i) ≡ true → (regularAt v i).id ≡ maker → (regularAt v i).price ≡ p → k ≤ (regularAt v i).quantity →
+  resting : (i : ℕ) → rests_at s e (regular_at v i) ≡ true → (regular_at v i).id ≡ maker → (regular_at v i).price ≡ p → k ≤ (regular_at v i).quantity →
       MakerStands v s e p k maker
-  legging : (j : ℕ) → isComplexOf maker (complexAt v j) ≡ true → held (leggingAt v s e).quantity ≡ true → (leggingAt v s e).parent ≡ maker →
-      (leggingAt v s e).price ≡ p → k ≤ (leggingAt v s e).quantity → MakerStands v s e p k maker
+  legging : (j : ℕ) → is_complex_of maker (complex_at v j) ≡ true → held (legging_at v s e).quantity ≡ true → (legging_at v s e).parent ≡ maker →
+      (legging_at v s e).price ≡ p → k ≤ (legging_at v s e).quantity → MakerStands v s e p k maker
 
 -- (e): "At one price all shown size trades by id, then, in trades of its own, all reserve by id, then the legging order": of a trade of k contracts with the
 -- order that rests at place i, on side e of series s at price p. "Then the legging order" is `hit` below.
 -- rule: (e)2
 pub record InTurn (v : Venue) (s e p k i : ℕ) : Type 0 where
   -- while it shows any, the trade is of what it shows, and of those at that price that show none is earlier
-  pub own : held (shownSize (regularAt v i)) ≡ true → k ≤ shownSize (regularAt v i)
-  pub shownById : held (shownSize (regularAt v i)) ≡ true → (n : ℕ) → showsAt s e (regularAt v n) ≡ true → (regularAt v n).price ≡ p → (regularAt v i).id ≤ (regularAt v n).id
+  pub own : held (shown_size (regular_at v i)) ≡ true → k ≤ shown_size (regular_at v i)
+  pub shown_by_id : held (shown_size (regular_at v i)) ≡ true → (n : ℕ) → shows_at s e (regular_at v n) ≡ true → (regular_at v n).price ≡ p → (regular_at v i).id ≤ (regular_at v n).id
   -- its reserve is traded when none at that price shows any, and of those that rest there none is earlier
-  pub allShown : held (shownSize (regularAt v i)) ≡ false → (n : ℕ) → restsAt s e (regularAt v n) ≡ true → (regularAt v n).price ≡ p → held (shownSize (regularAt v n)) ≡ false
-  pub reserveById : held (shownSize (regularAt v i)) ≡ false → (n : ℕ) → restsAt s e (regularAt v n) ≡ true → (regularAt v n).price ≡ p → (regularAt v i).id ≤ (regularAt v n).id
+  pub all_shown : held (shown_size (regular_at v i)) ≡ false → (n : ℕ) → rests_at s e (regular_at v n) ≡ true → (regular_at v n).price ≡ p → held (shown_size (regular_at v n)) ≡ false
+  pub reserve_by_id : held (shown_size (regular_at v i)) ≡ false → (n : ℕ) → rests_at s e (regular_at v n) ≡ true → (regular_at v n).price ≡ p → (regular_at v i).id ≤ (regular_at v n).id
 
 -- a trade of k contracts at price p in series s by a taker of side d, on the books v: it takes the side opposite to d
 -- rule: (i)1
@@ -41,17 +41,17 @@ pub record NonePassedOver (v : Venue) (s d p k taker maker : ℕ) : Type 0 where
   -- the maker stands there: if the books had lost it, the tests below would say nothing
   pub stands : MakerStands v s (opposite d) p k maker
   -- "no … strictly better shown … price stood on that side"
-  pub shown : (i : ℕ) → showsAt s (opposite d) (regularAt v i) ≡ true → better (opposite d) (regularAt v i).price p ≡ false
+  pub shown : (i : ℕ) → shows_at s (opposite d) (regular_at v i) ≡ true → better (opposite d) (regular_at v i).price p ≡ false
   -- "… or legging price"
-  pub legging : better (opposite d) (ownPrice (leggingAt v s (opposite d))) p ≡ false
+  pub legging : better (opposite d) (own_price (legging_at v s (opposite d))) p ≡ false
   -- beyond the request: an incoming regular order passes no better reserve over either
-  pub reserve : (j : ℕ) → isRegularOf taker (regularAt v j) ≡ true →
-      (i : ℕ) → restsAt s (opposite d) (regularAt v i) ≡ true → better (opposite d) (regularAt v i).price p ≡ false
+  pub reserve : (j : ℕ) → is_regular_of taker (regular_at v j) ≡ true →
+      (i : ℕ) → rests_at s (opposite d) (regular_at v i) ≡ true → better (opposite d) (regular_at v i).price p ≡ false
   -- request (e), of an incoming regular order and the regular order that it meets
-  pub turn : (j : ℕ) → isRegularOf taker (regularAt v j) ≡ true → (i : ℕ) → isRegularOf maker (regularAt v i) ≡ true → InTurn v s (opposite d) p k i
+  pub turn : (j : ℕ) → is_regular_of taker (regular_at v j) ≡ true → (i : ℕ) → is_regular_of maker (regular_at v i) ≡ true → InTurn v s (opposite d) p k i
   -- "when an incoming regular order hits a legging order, no regular contract, shown or reserve, stood at that price": the maker is a complex order
-  pub hit : (j : ℕ) → isComplexOf maker (complexAt v j) ≡ true →
-      (i : ℕ) → restsAt s (opposite d) (regularAt v i) ≡ true → (regularAt v i).price ≢ p
+  pub hit : (j : ℕ) → is_complex_of maker (complex_at v j) ≡ true →
+      (i : ℕ) → rests_at s (opposite d) (regular_at v i) ≡ true → (regular_at v i).price ≢ p
 
 -- A cross -------------------------------------------------------------------------------------
 
@@ -59,8 +59,8 @@ pub record NonePassedOver (v : Venue) (s d p k taker maker : ℕ) : Type 0 where
 -- the taker's net n, and the maker's, minus that
 -- rule: (b)1
 pub record BothRespected (v : Venue) (taker maker : ℕ) (n : ℤ) : Type 0 where
-  pub taking : (i : ℕ) → isComplexOf taker (complexAt v i) ≡ true → Respects v (complexAt v i) n
-  pub resting : (i : ℕ) → isComplexOf maker (complexAt v i) ≡ true → Respects v (complexAt v i) (neg_ℤ n)
+  pub taking : (i : ℕ) → is_complex_of taker (complex_at v i) ≡ true → Respects v (complex_at v i) n
+  pub resting : (i : ℕ) → is_complex_of maker (complex_at v i) ≡ true → Respects v (complex_at v i) (neg_ℤ n)
 
 -- Every record --------------------------------------------------------------------------------
 
@@ -89,4 +89,4 @@ pub record NoBetterPassedOver : Type 0 where
       AtEach (upon v (message ∷ [])) (step v number message).effect.reports
   pub list : (o : Opening) (cs : List Later) →
       let s = calls (opening o) cs in
-      AtEach (upon freshVenue s.messages) s.reports
+      AtEach (upon fresh_venue s.messages) s.reports

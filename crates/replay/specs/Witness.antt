@@ -4,11 +4,11 @@ use Rattle.std.specs.Prelude.{◌≡◌, List, [], ◌++◌, ◌∷◌, map, ℕ
 use Rattle.rules.specs.declared.Message.{Message}
 use Rattle.rules.specs.declared.Message.TheVariants.{Cancel, LimitedSweep}
 use Rattle.rules.specs.declared.Venue.{Venue}
-use Rattle.rules.specs.Words.{buy, complexAt, freshVenue, leggingAt, regularAt, sell}
+use Rattle.rules.specs.Words.{buy, complex_at, fresh_venue, legging_at, regular_at, sell}
 use Rattle.rules.specs.Records.{Report, cancelled, crossed, generated, looked, trade}
-use Rattle.rules.specs.Prices.{bestRegular}
-use Rattle.rules.specs.Generation.{generationsOf}
-use Rattle.demands.specs.Demand.{Seen, byRun, calls, opening}
+use Rattle.rules.specs.Prices.{best_regular}
+use Rattle.rules.specs.Generation.{generations_of}
+use Rattle.demands.specs.Demand.{Seen, by_run, calls, opening}
 use Rattle.witness.specs.Witness.{both, bytes_of, order, reserved}
 use Rattle.replay.specs.Replay.{replay, upon}
 
@@ -27,39 +27,39 @@ session =
     ∷ []
 
 unfoldable pub seen : Seen
-seen = calls (opening (byRun (record { room = 2000; bytes = bytes_of session }))) []
+seen = calls (opening (by_run (record { room = 2000; bytes = bytes_of session }))) []
 
 -- record n, counted from 0, and the books just before it
-unfoldable pub recordAt : ℕ → Report
-recordAt n = get_or seen.reports n (cancelled 0 0)
+unfoldable pub record_at : ℕ → Report
+record_at n = get_or seen.reports n (cancelled 0 0)
 
 unfoldable pub before : ℕ → Venue
-before n = (replay (upon freshVenue seen.messages) (take n seen.reports)).books
+before n = (replay (upon fresh_venue seen.messages) (take n seen.reports)).books
 
 pub record Witness : Type 0 where
   -- a regular order hits a legging order: its complex order is the maker, and a regular order rests at a worse price of that side
-  pub hit : recordAt 7 ≡ trade 0 1 115 8 5 3
-  pub hitLegging : leggingAt (before 7) 0 0 ≡ record { parent = 3; price = 115; quantity = 8 }
-  pub hitMaker : (complexAt (before 7) 0).id ≡ 3
-  pub hitBehind : regularAt (before 7) 2 ≡ record { id = 4; series = 0; side = 0; price = 110; quantity = 2; display = 2; reserve = 0 }
+  pub hit : record_at 7 ≡ trade 0 1 115 8 5 3
+  pub hit_legging : legging_at (before 7) 0 0 ≡ record { parent = 3; price = 115; quantity = 8 }
+  pub hit_maker : (complex_at (before 7) 0).id ≡ 3
+  pub hit_behind : regular_at (before 7) 2 ≡ record { id = 4; series = 0; side = 0; price = 110; quantity = 2; display = 2; reserve = 0 }
   -- its other leg, and then the trade at 110, when the legging order is gone
-  pub hitOther : recordAt 8 ≡ trade 1 0 90 8 3 2
-  pub hitAfter : recordAt 12 ≡ trade 0 1 110 2 5 4
-  pub hitGone : (leggingAt (before 12) 0 0).quantity ≡ 0
+  pub hit_other : record_at 8 ≡ trade 1 0 90 8 3 2
+  pub hit_after : record_at 12 ≡ trade 0 1 110 2 5 4
+  pub hit_gone : (legging_at (before 12) 0 0).quantity ≡ 0
   -- a regular order takes reserve: nothing of it shows any more, a worse price shows, and the taker is in the books
-  pub reserve : recordAt 17 ≡ trade 7 0 100 5 8 6
-  pub reserveLeft : regularAt (before 17) 2 ≡ record { id = 6; series = 7; side = 1; price = 100; quantity = 7; display = 3; reserve = 7 }
-  pub reserveWorse : regularAt (before 17) 3 ≡ record { id = 7; series = 7; side = 1; price = 110; quantity = 1; display = 1; reserve = 0 }
-  pub reserveTaker : regularAt (before 17) 4 ≡ record { id = 8; series = 7; side = 0; price = 110; quantity = 5; display = 5; reserve = 0 }
+  pub reserve : record_at 17 ≡ trade 7 0 100 5 8 6
+  pub reserve_left : regular_at (before 17) 2 ≡ record { id = 6; series = 7; side = 1; price = 100; quantity = 7; display = 3; reserve = 7 }
+  pub reserve_worse : regular_at (before 17) 3 ≡ record { id = 7; series = 7; side = 1; price = 110; quantity = 1; display = 1; reserve = 0 }
+  pub reserve_taker : regular_at (before 17) 4 ≡ record { id = 8; series = 7; side = 0; price = 110; quantity = 5; display = 5; reserve = 0 }
   -- a cross, with a bid and an offer in both series
-  pub cross : recordAt 24 ≡ crossed 12 11 (negsuc 189) 2
-  pub crossBids : map (λ s. bestRegular (before 24) s buy) (0 ∷ 1 ∷ []) ≡ 100 ∷ 50 ∷ []
-  pub crossOffers : map (λ s. bestRegular (before 24) s sell) (0 ∷ 1 ∷ []) ≡ 130 ∷ 90 ∷ []
+  pub cross : record_at 24 ≡ crossed 12 11 (negsuc 189) 2
+  pub cross_bids : map (λ s. best_regular (before 24) s buy) (0 ∷ 1 ∷ []) ≡ 100 ∷ 50 ∷ []
+  pub cross_offers : map (λ s. best_regular (before 24) s sell) (0 ∷ 1 ∷ []) ≡ 130 ∷ 90 ∷ []
   -- a limited sweep: the lesser of 2 and the one that rests, from the id reached before to the one that is reached now
-  pub looks : recordAt 42 ≡ looked 1
-  pub looksFrom : (before 42).reached ≡ 14
-  pub looksAt : (before 43).reached ≡ 13
+  pub looks : record_at 42 ≡ looked 1
+  pub looks_from : (before 42).reached ≡ 14
+  pub looks_at : (before 43).reached ≡ 13
   -- its first 67, of message 17; before it four of series 0 counted, of messages 3, 11, 13 and 14
-  pub makes : recordAt 43 ≡ generated 13 0 0 115 115 1
-  pub madeBefore : generationsOf (before 43) 0 ≡ replicate 16 0 ++ (3 ∷ 11 ∷ 13 ∷ 14 ∷ [])
-  pub madeAfter : generationsOf (before 44) 0 ≡ replicate 15 0 ++ (3 ∷ 11 ∷ 13 ∷ 14 ∷ 17 ∷ [])
+  pub makes : record_at 43 ≡ generated 13 0 0 115 115 1
+  pub made_before : generations_of (before 43) 0 ≡ replicate 16 0 ++ (3 ∷ 11 ∷ 13 ∷ 14 ∷ [])
+  pub made_after : generations_of (before 44) 0 ≡ replicate 15 0 ++ (3 ∷ 11 ∷ 13 ∷ 14 ∷ 17 ∷ [])

@@ -15,13 +15,13 @@ use Rattle.rules.specs.declared.Venue.{Venue}
 use Rattle.rules.specs.declared.Verdict.{Verdict}
 use Rattle.rules.specs.declared.Verdict.TheVariants.{Fails, Stands}
 use Rattle.rules.specs.Base.{held, if◌then◌else◌}
-use Rattle.rules.specs.Words.{complexAt, noComplex, noRegular, regularAt, withComplex, withRegular}
+use Rattle.rules.specs.Words.{complex_at, no_complex, no_regular, regular_at, with_complex, with_regular}
 use Rattle.rules.specs.Records.{Report, removed, trade}
 use Rattle.rules.specs.Effects.{Effect, ◌⟫◌}
-use Rattle.rules.specs.Removal.{goes, leavers, remove, removeOf}
-use Rattle.rules.specs.Trading.{fillComplex, fillRegular, lessComplex, lessRegular}
+use Rattle.rules.specs.Removal.{goes, leavers, remove, remove_of}
+use Rattle.rules.specs.Trading.{fill_complex, fill_regular, less_complex, less_regular}
 use Rattle.rules.specs.Places.{packed}
-use Rattle.rules.specs.Sums.{contracts, openComplex, open_in, openRegular, total}
+use Rattle.rules.specs.Sums.{contracts, open_complex, open_in, open_regular, total}
 use Rattle.rules.proofs.Cases.{if-by}
 use Rattle.rules.proofs.Closing.{over-packed}
 use Rattle.rules.proofs.Filling.{cx, reg}
@@ -50,8 +50,8 @@ module _ (f : Report → ℕ) (silent : (id s d : ℕ) (c : Cause) → f (remove
   leavers-silent g n [] = refl
   leavers-silent g n (l ∷ ls) = rw (total-append, goes_silent, leavers-silent g (suc n) ls)
 
-  pub remove-silent : (id : ℕ) (c : Cause) (v : Venue) → total f (removeOf id c v).reports ≡ 0
-  unfolding removeOf remove
+  pub remove-silent : (id : ℕ) (c : Cause) (v : Venue) → total f (remove_of id c v).reports ≡ 0
+  unfolding remove_of remove
   remove-silent id c v = leavers-silent _ 0 v.legging
 
 -- One trade, by who y is ----------------------------------------------------------------------
@@ -148,12 +148,12 @@ module _ {A : Type 0} (none : A) (id quantity : A → ℕ) (y : ℕ) where
 
 -- a regular order is filled for q
 pub open-fill : (i q : ℕ) (v : Venue) (y : ℕ) → i < length v.regular → q ≤ (reg v i).quantity →
-    openRegular y v.regular ≡ openRegular y (fillRegular i q v).regular + (if eqb (reg v i).id y then q else 0)
-unfolding fillRegular withRegular regularAt lessRegular
-open-fill i q v y f le = open-less noRegular (λ o. o.id) (λ o. o.quantity) y q v.regular i _ f refl (omega arith)
+    open_regular y v.regular ≡ open_regular y (fill_regular i q v).regular + (if eqb (reg v i).id y then q else 0)
+unfolding fill_regular with_regular regular_at less_regular
+open-fill i q v y f le = open-less no_regular (λ o. o.id) (λ o. o.quantity) y q v.regular i _ f refl (omega arith)
 
 -- a complex order is filled for q
-pub open-fillC : (i q : ℕ) (v : Venue) (y : ℕ) → i < length v.complex → q ≤ (cx v i).quantity →
-    openComplex y v.complex ≡ openComplex y (fillComplex i q v).complex + (if eqb (cx v i).id y then q else 0)
-unfolding fillComplex withComplex complexAt lessComplex
-open-fillC i q v y f le = open-less noComplex (λ c. c.id) (λ c. c.quantity) y q v.complex i _ f refl (omega arith)
+pub open-fill_c : (i q : ℕ) (v : Venue) (y : ℕ) → i < length v.complex → q ≤ (cx v i).quantity →
+    open_complex y v.complex ≡ open_complex y (fill_complex i q v).complex + (if eqb (cx v i).id y then q else 0)
+unfolding fill_complex with_complex complex_at less_complex
+open-fill_c i q v y f le = open-less no_complex (λ c. c.id) (λ c. c.quantity) y q v.complex i _ f refl (omega arith)

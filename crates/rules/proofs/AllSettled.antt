@@ -7,12 +7,12 @@ use Rattle.rules.specs.Words.{with_last}
 use Rattle.rules.specs.Settings.{percentage}
 use Rattle.rules.specs.Effects.{Effect, ◌⟫◌}
 use Rattle.rules.specs.Standing.{settle}
-use Rattle.rules.specs.Order.{enterRegular, order}
+use Rattle.rules.specs.Order.{enter_regular, order}
 use Rattle.rules.specs.Generation.{generate}
-use Rattle.rules.specs.Complex.{cancel, complex, limitedSweep, sweep}
-use Rattle.rules.specs.Step.{perform, setAway, setFigure, setStatus}
+use Rattle.rules.specs.Complex.{cancel, complex, limited_sweep, sweep}
+use Rattle.rules.specs.Step.{perform, set_away, set_figure, set_status}
 use Rattle.rules.proofs.Generating.{AllStand}
-use Rattle.rules.proofs.EffectsLaws.{keeps-eachOf}
+use Rattle.rules.proofs.EffectsLaws.{keeps-each_of}
 use Rattle.rules.proofs.Settling.{settle-stands}
 
 pub settle-all : (v : Venue) → AllStand (settle v).venue
@@ -48,13 +48,13 @@ module _ (number : ℕ) where
   -- "After every accepted message all are tested against the same state, failures go together": none is left that fails when the message generates, and after
   -- that it does nothing else. `Generating.generate-stands` has that generation keeps it.
   pub perform-stands : (m : Message) (v : Venue) → Settled number (perform number m v).venue
-  unfolding perform order complex cancel sweep limitedSweep
-  perform-stands (Order o) v = just _ (settled (enterRegular o (with_last v o.id)))
+  unfolding perform order complex cancel sweep limited_sweep
+  perform-stands (Order o) v = just _ (settled (enter_regular o (with_last v o.id)))
   perform-stands (TwoLeg c) v = then-generates _ _ (one_more _)
   perform-stands (Cancel id) v = just _ (settled _)
-  perform-stands (Away s bid offer) v = just _ (settle-all (setAway s bid offer v))
-  perform-stands (Status s x) v = just _ (settle-all (setStatus s x v))
-  perform-stands Sweep v = then-generates _ _ (keeps-eachOf (Settled number) (generate number) one_more _)
-  perform-stands (Increment s i e) v = just _ (settle-all (setFigure number s i e v))
-  perform-stands (Percent x e) v = just _ (settle-all (setFigure number percentage x e v))
-  perform-stands (LimitedSweep n) v = then-generates _ _ (keeps-eachOf (Settled number) (generate number) one_more _)
+  perform-stands (Away s bid offer) v = just _ (settle-all (set_away s bid offer v))
+  perform-stands (Status s x) v = just _ (settle-all (set_status s x v))
+  perform-stands Sweep v = then-generates _ _ (keeps-each_of (Settled number) (generate number) one_more _)
+  perform-stands (Increment s i e) v = just _ (settle-all (set_figure number s i e v))
+  perform-stands (Percent x e) v = just _ (settle-all (set_figure number percentage x e v))
+  perform-stands (LimitedSweep n) v = then-generates _ _ (keeps-each_of (Settled number) (generate number) one_more _)

@@ -10,7 +10,7 @@ use lib.ListN.{length}
 use Rattle.rules.specs.declared.Legging.{Legging}
 use Rattle.rules.specs.declared.Venue.{Venue}
 use Rattle.rules.specs.Base.{held, if◌then◌else◌}
-use Rattle.rules.specs.Messages.{messageOf}
+use Rattle.rules.specs.Messages.{message_of}
 use Rattle.rules.specs.Records.{ForAll, Fits, Report, TwoBytes, FourBytes, OneByte, answer}
 use Rattle.rules.specs.Effects.{Effect, nothing}
 use Rattle.rules.specs.Refusals.{refusal}
@@ -67,14 +67,14 @@ told_of n x e s w h =
 pub told : (v : Venue) → Ranged v → (n : ℕ) (bs : List ℕ) → Told v n bs
 unfolding step answered
 told v r n bs =
-    let e = if eqb (refusal v bs) 0 then accept n (messageOf bs) v else nothing v in
-    let w : Writes e = step_by Writes v n bs (λ h. writes-accept n (messageOf bs) v (accepted v bs h).range r) (λ _. writes_nothing v r) in
+    let e = if eqb (refusal v bs) 0 then accept n (message_of bs) v else nothing v in
+    let w : Writes e = step_by Writes v n bs (λ h. writes-accept n (message_of bs) v (accepted v bs h).range r) (λ _. writes_nothing v r) in
     record {
       mask = mask e.venue.legging;
       count = filled e.venue.legging;
       effects = e.reports;
       is = refl;
-      quiet = step_by Quiet v n bs (λ _. quiet-accept n (messageOf bs) v) (λ _. quiet-nothing v);
+      quiet = step_by Quiet v n bs (λ _. quiet-accept n (message_of bs) v) (λ _. quiet-nothing v);
       ranged = w.ranged;
       fits = told_of n (refusal v bs) e (refusal-small v bs) w;
     }

@@ -14,9 +14,9 @@ use Rattle.rules.proofs.Closing.{packed-id}
 use lib.IntN.{ℤ, pos, negsuc, nat_abs}
 use Rattle.rules.proofs.Tests.{and_l, and_r, and_in}
 use Rattle.rules.specs.Base.{if◌then◌else◌, held, all}
-use Rattle.rules.specs.Words.{noRegular, noComplex, withRegular, withComplex}
-use Rattle.rules.specs.Places.{holdsRegular, holdsComplex, blankRegular, blankComplex, arranged, closeGaps}
-use Rattle.rules.specs.Sound.{regularsSound, complexesSound}
+use Rattle.rules.specs.Words.{no_regular, no_complex, with_regular, with_complex}
+use Rattle.rules.specs.Places.{holds_regular, holds_complex, blank_regular, blank_complex, arranged, close_gaps}
+use Rattle.rules.specs.Sound.{regulars_sound, complexes_sound}
 
 -- every element passes a test
 pub all-at : {A : Type 0} (f : A → Bool) (d : A) (l : List A) → f d ≡ true → all f l ≡ true → (i : ℕ) → f (get_or l i d) ≡ true
@@ -128,8 +128,8 @@ module _ {A : Type 0} (none : A) (holds asked blank : A → Bool) (id : A → �
 
 -- Sound venues --------------------------------------------------------------------------------
 
-pub blank-is : (o : Regular) → blankRegular o ≡ true → o ≡ noRegular
-unfolding blankRegular
+pub blank-is : (o : Regular) → blank_regular o ≡ true → o ≡ no_regular
+unfolding blank_regular
 blank-is o z =
     let a = eqb-true o.id 0 (search (and_l, and_r, z) depth 8) in
     let b = eqb-true o.series 0 (search (and_l, and_r, z) depth 8) in
@@ -144,9 +144,9 @@ zero-abs : (z : ℤ) → nat_abs z ≡ 0 → z ≡ pos 0
 zero-abs (pos n) h = ap pos h
 zero-abs (negsuc n) h = absurd (omega arith)
 
-blank-isC : (c : Complex) → blankComplex c ≡ true → c ≡ noComplex
-unfolding blankComplex
-blank-isC x z =
+blank-is_c : (c : Complex) → blank_complex c ≡ true → c ≡ no_complex
+unfolding blank_complex
+blank-is_c x z =
     let a = eqb-true x.id 0 (search (and_l, and_r, z) depth 12) in
     let b = eqb-true x.series1 0 (search (and_l, and_r, z) depth 12) in
     let c = eqb-true x.side1 0 (search (and_l, and_r, z) depth 12) in
@@ -159,19 +159,19 @@ blank-isC x z =
     let j = eqb-true x.ratio2 0 (search (and_l, and_r, z) depth 12) in
     rw (a, b, c, d, e, f, g, h, i, j)
 
-pub blank-free : (o : Regular) → blankRegular o ≡ true → held o.quantity ≡ false
+pub blank-free : (o : Regular) → blank_regular o ≡ true → held o.quantity ≡ false
 blank-free o z = rw (blank-is o z)
 
-pub blank-freeC : (c : Complex) → blankComplex c ≡ true → held c.quantity ≡ false
-blank-freeC c z = rw (blank-isC c z)
+pub blank-free_c : (c : Complex) → blank_complex c ≡ true → held c.quantity ≡ false
+blank-free_c c z = rw (blank-is_c c z)
 
 -- closing the gaps of a venue whose books are sound changes nothing
-pub closed_same : (v : Venue) → regularsSound v ≡ true → complexesSound v ≡ true → closeGaps v ≡ v
-unfolding closeGaps withRegular withComplex regularsSound complexesSound
+pub closed_same : (v : Venue) → regulars_sound v ≡ true → complexes_sound v ≡ true → close_gaps v ≡ v
+unfolding close_gaps with_regular with_complex regulars_sound complexes_sound
 closed_same v r c =
-    let a = arranged-out noRegular holdsRegular _ blankRegular (λ o. o.id) blank-free (unfold blankRegular in refl) 0 v.regular r in
-    let b = arranged-out noComplex holdsComplex _ blankComplex (λ c. c.id) blank-freeC (unfold blankComplex in refl) 0 v.complex c in
+    let a = arranged-out no_regular holds_regular _ blank_regular (λ o. o.id) blank-free (unfold blank_regular in refl) 0 v.regular r in
+    let b = arranged-out no_complex holds_complex _ blank_complex (λ c. c.id) blank-free_c (unfold blank_complex in refl) 0 v.complex c in
     rw (
-      packed-id holdsRegular noRegular refl v.regular a.dense (λ i h. blank-is _ (a.blanks i h)),
-      packed-id holdsComplex noComplex refl v.complex b.dense (λ i h. blank-isC _ (b.blanks i h)),
+      packed-id holds_regular no_regular refl v.regular a.dense (λ i h. blank-is _ (a.blanks i h)),
+      packed-id holds_complex no_complex refl v.complex b.dense (λ i h. blank-is_c _ (b.blanks i h)),
     )

@@ -11,8 +11,8 @@ use borrow.Author.Tests.{ltb-true, lt-ltb}
 use Rattle.rules.specs.declared.Regular.{Regular}
 use Rattle.rules.proofs.Tests.{held-pos, pos-held, free-none}
 use Rattle.rules.specs.Base.{if◌then◌else◌, held}
-use Rattle.rules.specs.Words.{buy, noRegular}
-use Rattle.rules.specs.Prices.{better, betterOf, shownSize, showsAt, bestIn}
+use Rattle.rules.specs.Words.{buy, no_regular}
+use Rattle.rules.specs.Prices.{better, better_of, shown_size, shows_at, best_in}
 
 -- as a statement about numbers; b says whether the side is buy
 Better : Bool → ℕ → ℕ → Type 0
@@ -121,16 +121,16 @@ is_false true h = absurd (h refl)
 is_false false h = refl
 
 -- of two prices none is better than the better one
-pub own_of : (d p q : ℕ) → better d p (betterOf d p q) ≡ true → ⊥
-unfolding betterOf
+pub own_of : (d p q : ℕ) → better d p (better_of d p q) ≡ true → ⊥
+unfolding better_of
 own_of d p q = go (better d p q) refl
   where
     go : (t : Bool) → better d p q ≡ t → better d p (if t then p else q) ≡ true → ⊥
     go true e h = better-irrefl d p h
     go false e h = true≢false (sym h ∙ e)
 
-pub of_other : (d x p q : ℕ) → better d x (betterOf d p q) ≡ true → better d x q ≡ true
-unfolding betterOf
+pub of_other : (d x p q : ℕ) → better d x (better_of d p q) ≡ true → better d x q ≡ true
+unfolding better_of
 of_other d x p q = go (better d p q) refl
   where
     go : (t : Bool) → better d p q ≡ t → better d x (if t then p else q) ≡ true → better d x q ≡ true
@@ -138,13 +138,13 @@ of_other d x p q = go (better d p q) refl
     go false e h = h
 
 -- no order of a side is better than its best price
-pub best-best : (s d : ℕ) (os : List Regular) (i : ℕ) → showsAt s d (get_or os i noRegular) ≡ true → better d (get_or os i noRegular).price (bestIn s d os) ≡ true → ⊥
-unfolding bestIn showsAt shownSize
+pub best-best : (s d : ℕ) (os : List Regular) (i : ℕ) → shows_at s d (get_or os i no_regular) ≡ true → better d (get_or os i no_regular).price (best_in s d os) ≡ true → ⊥
+unfolding best_in shows_at shown_size
 best-best s d [] i r h = false≢true r
-best-best s d (o ∷ os) zero r h = own_of d o.price (bestIn s d os) (rw r at h)
-best-best s d (o ∷ os) (suc i) r h = best-best s d os i r (go (showsAt s d o) h)
+best-best s d (o ∷ os) zero r h = own_of d o.price (best_in s d os) (rw r at h)
+best-best s d (o ∷ os) (suc i) r h = best-best s d os i r (go (shows_at s d o) h)
   where
-    go : (t : Bool) → better d (get_or os i noRegular).price (if t then betterOf d o.price (bestIn s d os) else bestIn s d os) ≡ true →
-        better d (get_or os i noRegular).price (bestIn s d os) ≡ true
-    go true h = of_other d _ o.price (bestIn s d os) h
+    go : (t : Bool) → better d (get_or os i no_regular).price (if t then better_of d o.price (best_in s d os) else best_in s d os) ≡ true →
+        better d (get_or os i no_regular).price (best_in s d os) ≡ true
+    go true h = of_other d _ o.price (best_in s d os) h
     go false h = h

@@ -6,21 +6,21 @@ use lib.Dec.{eqb}
 use lib.ListN.{length}
 use Rattle.rules.specs.declared.Message.TheVariants.{Order, TwoLeg, Cancel, Away, Status, Sweep, Increment, Percent, LimitedSweep}
 use Rattle.rules.specs.Base.{if◌then◌else◌}
-use Rattle.rules.specs.Words.{oneToOne}
-use Rattle.rules.specs.Bytes.{bytes, framed, kindField, u16At, u32, u8, u8_at}
-use Rattle.rules.specs.Messages.{length_of, orderFields, twoLegFields, encodeMessage, KindLengths}
+use Rattle.rules.specs.Words.{one_to_one}
+use Rattle.rules.specs.Bytes.{bytes, framed, kind_field, u16_at, u32, u8, u8_at}
+use Rattle.rules.specs.Messages.{length_of, order_fields, two_leg_fields, encode_message, KindLengths}
 
 pub kind-lengths : KindLengths
-unfolding length_of encodeMessage orderFields twoLegFields framed bytes kindField u16At u8_at
+unfolding length_of encode_message order_fields two_leg_fields framed bytes kind_field u16_at u8_at
 kind-lengths (Order o) = go (eqb o.display o.quantity)
   where
     -- either kind
-    go : (b : Bool) → let bs = if b then framed 1 (orderFields o) else framed 9 (orderFields o ++ u32 o.display) in length bs ≡ length_of (kindField bs)
+    go : (b : Bool) → let bs = if b then framed 1 (order_fields o) else framed 9 (order_fields o ++ u32 o.display) in length bs ≡ length_of (kind_field bs)
     go true = refl
     go false = refl
-kind-lengths (TwoLeg c) = go (oneToOne c)
+kind-lengths (TwoLeg c) = go (one_to_one c)
   where
-    go : (b : Bool) → let bs = if b then framed 2 (twoLegFields c) else framed 10 (twoLegFields c ++ u8 c.ratio1 ++ u8 c.ratio2) in length bs ≡ length_of (kindField bs)
+    go : (b : Bool) → let bs = if b then framed 2 (two_leg_fields c) else framed 10 (two_leg_fields c ++ u8 c.ratio1 ++ u8 c.ratio2) in length bs ≡ length_of (kind_field bs)
     go true = refl
     go false = refl
 kind-lengths (Cancel id) = refl

@@ -11,7 +11,7 @@ use Rattle.rules.specs.declared.Verdict.TheVariants.{Stands, Fails}
 use Rattle.rules.specs.Base.{held, if◌then◌else◌}
 use Rattle.rules.specs.Records.{Report, removed}
 use Rattle.rules.specs.Removal.{goes, leavers, remove}
-use Rattle.rules.specs.Standing.{settle, showAgain, verdict}
+use Rattle.rules.specs.Standing.{settle, show_again, verdict}
 use Rattle.rules.proofs.Cases.{if-by}
 
 -- removals alone, by rising place, each place m (side m % 2 of series m / 2) at least n: so no place is named twice
@@ -43,4 +43,4 @@ removed-by-place f v = leavers-by-place f 0 v.legging
 -- "The 68 records of one settling now come by rising place", of every venue
 pub settled-by-place : (v : Venue) → ByPlace 0 (settle v).reports
 unfolding settle
-settled-by-place v = removed-by-place (verdict (showAgain v)) (showAgain v)
+settled-by-place v = removed-by-place (verdict (show_again v)) (show_again v)

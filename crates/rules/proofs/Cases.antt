@@ -7,12 +7,12 @@ use Rattle.rules.specs.declared.Complex.{Complex}
 use Rattle.rules.specs.declared.Legging.{Legging}
 use Rattle.rules.specs.declared.Venue.{Venue}
 use Rattle.rules.specs.Base.{if◌then◌else◌, held, Choice, nobody, picked, first}
-use Rattle.rules.specs.Words.{opposite, noRegular, noComplex, regularAt, complexAt, leggingAt, earlier}
+use Rattle.rules.specs.Words.{opposite, no_regular, no_complex, regular_at, complex_at, legging_at, earlier}
 use Rattle.rules.specs.Effects.{Effect, nothing, ◌⟫◌, Turn, ended, turned, repeat}
-use Rattle.rules.specs.Prices.{shownSize, showsFor}
-use Rattle.rules.specs.Trading.{tradeWith, tradeAtPrice}
-use Rattle.rules.specs.Order.{isMet, priceThenId, at_once, firstMet, leggingFirst, meet, hit, meetTurn}
-use Rattle.rules.specs.Complex.{crosses, limitThenId, cross, crossTurn}
+use Rattle.rules.specs.Prices.{shown_size, shows_for}
+use Rattle.rules.specs.Trading.{trade_with, trade_at_price}
+use Rattle.rules.specs.Order.{is_met, price_then_id, at_once, first_met, legging_first, meet, hit, meet_turn}
+use Rattle.rules.specs.Complex.{crosses, limit_then_id, cross, cross_turn}
 use Rattle.rules.proofs.Picking.{At, Chosen, first-chosen}
 
 -- a choice
@@ -23,29 +23,29 @@ if-by Q false t f = f refl
 -- one turn of taking: nothing more is wanted, or nobody is there, or one is traded with and taking goes on
 module _ {ℓ} (Q : Effect → Type ℓ) (fuel x s d p k : ℕ) (v : Venue) where
   abbrev there : Regular → Bool
-  there = showsFor s (opposite d) p
+  there = shows_for s (opposite d) p
 
-  abbrev goesOn : (i : ℕ) → Regular → Effect
-  goesOn i o = tradeWith x d i (min k (shownSize o)) v ⟫ tradeAtPrice fuel x s d p (k - min k (shownSize o))
+  abbrev goes_on : (i : ℕ) → Regular → Effect
+  goes_on i o = trade_with x d i (min k (shown_size o)) v ⟫ trade_at_price fuel x s d p (k - min k (shown_size o))
 
   pub at-price-by : (held k ≡ false → Q (nothing v)) →
-      (held k ≡ true → Chosen noRegular there v.regular nobody → Q (nothing v)) →
-      (held k ≡ true → (i : ℕ) (o : Regular) → At noRegular there v.regular i o → Q (goesOn i o)) →
-      Q (tradeAtPrice (suc fuel) x s d p k v)
-  unfolding tradeAtPrice
+      (held k ≡ true → Chosen no_regular there v.regular nobody → Q (nothing v)) →
+      (held k ≡ true → (i : ℕ) (o : Regular) → At no_regular there v.regular i o → Q (goes_on i o)) →
+      Q (trade_at_price (suc fuel) x s d p k v)
+  unfolding trade_at_price
   at-price-by none empty more = go (held k) refl
     where
-      pick : (y : Choice Regular) → Chosen noRegular there v.regular y → held k ≡ true → Q (elim y [ nobody ↦ nothing v | picked i o ↦ goesOn i o ])
+      pick : (y : Choice Regular) → Chosen no_regular there v.regular y → held k ≡ true → Q (elim y [ nobody ↦ nothing v | picked i o ↦ goes_on i o ])
       pick nobody c e = empty e c
       pick (picked i o) c e = more e i o c
 
       go : (b : Bool) → held k ≡ b →
           Q (elim b [
             | false ↦ nothing v
-            | true ↦ elim (first there earlier v.regular) [ nobody ↦ nothing v | picked i o ↦ goesOn i o ]
+            | true ↦ elim (first there earlier v.regular) [ nobody ↦ nothing v | picked i o ↦ goes_on i o ]
           ])
       go false e = none e
-      go true e = pick (first there earlier v.regular) (first-chosen noRegular there earlier v.regular) e
+      go true e = pick (first there earlier v.regular) (first-chosen no_regular there earlier v.regular) e
 
 -- one turn of a loop
 module _ {ℓ} (Q : Effect → Type ℓ) (fuel : ℕ) (turn : Venue → Turn) (v : Venue) where
@@ -60,13 +60,13 @@ module _ {ℓ} (Q : Effect → Type ℓ) (fuel : ℕ) (turn : Venue → Turn) (v
 -- a turn of matching, of the order at place i: it is filled, or meets nobody, or hits the legging order, or meets a regular order
 module _ {ℓ} (Q : Turn → Type ℓ) (i : ℕ) (v : Venue) where
   abbrev o : Regular
-  o = regularAt v i
+  o = regular_at v i
 
   abbrev l : Legging
-  l = leggingAt v o.series (opposite o.side)
+  l = legging_at v o.series (opposite o.side)
 
   abbrev met : Regular → Bool
-  met = isMet o.series o.side o.price
+  met = is_met o.series o.side o.price
 
   abbrev hitting : Turn
   hitting = turned (hit i l (min o.quantity l.quantity) v)
@@ -74,38 +74,38 @@ module _ {ℓ} (Q : Turn → Type ℓ) (i : ℕ) (v : Venue) where
   abbrev meeting : (j : ℕ) → Regular → Turn
   meeting j m = turned (meet i j (min o.quantity (at_once m)) v)
 
-  pub meetTurn-by : (held o.quantity ≡ false → Q ended) →
-      (held o.quantity ≡ true → Chosen noRegular met v.regular nobody → leggingFirst o l 0 ≡ false → Q ended) →
-      (held o.quantity ≡ true → (p : ℕ) → leggingFirst o l p ≡ true → Q hitting) →
-      (held o.quantity ≡ true → (j : ℕ) (m : Regular) → At noRegular met v.regular j m → leggingFirst o l m.price ≡ false → Q (meeting j m)) →
-      Q (meetTurn i v)
-  unfolding meetTurn firstMet
-  meetTurn-by done alone hits meets = go (held o.quantity) refl (first met priceThenId v.regular) (first-chosen noRegular met priceThenId v.regular)
+  pub meet_turn-by : (held o.quantity ≡ false → Q ended) →
+      (held o.quantity ≡ true → Chosen no_regular met v.regular nobody → legging_first o l 0 ≡ false → Q ended) →
+      (held o.quantity ≡ true → (p : ℕ) → legging_first o l p ≡ true → Q hitting) →
+      (held o.quantity ≡ true → (j : ℕ) (m : Regular) → At no_regular met v.regular j m → legging_first o l m.price ≡ false → Q (meeting j m)) →
+      Q (meet_turn i v)
+  unfolding meet_turn first_met
+  meet_turn-by done alone hits meets = go (held o.quantity) refl (first met price_then_id v.regular) (first-chosen no_regular met price_then_id v.regular)
     where
-      go : (b : Bool) → held o.quantity ≡ b → (x : Choice Regular) → Chosen noRegular met v.regular x →
+      go : (b : Bool) → held o.quantity ≡ b → (x : Choice Regular) → Chosen no_regular met v.regular x →
           Q (if not b then ended else elim x as (λ _. Turn) [
-            | nobody ↦ if leggingFirst o l 0 then hitting else ended
-            | picked j m ↦ if leggingFirst o l m.price then hitting else meeting j m
+            | nobody ↦ if legging_first o l 0 then hitting else ended
+            | picked j m ↦ if legging_first o l m.price then hitting else meeting j m
           ])
       go false e x c = done e
-      go true e nobody c = if-by Q (leggingFirst o l 0) (hits e 0) (alone e c)
-      go true e (picked j m) c = if-by Q (leggingFirst o l m.price) (hits e m.price) (meets e j m c)
+      go true e nobody c = if-by Q (legging_first o l 0) (hits e 0) (alone e c)
+      go true e (picked j m) c = if-by Q (legging_first o l m.price) (hits e m.price) (meets e j m c)
 
 -- a turn of crossing, of the order at place i
 module _ {ℓ} (Q : Turn → Type ℓ) (i : ℕ) (v : Venue) where
   abbrev c : Complex
-  c = complexAt v i
+  c = complex_at v i
 
-  pub crossTurn-by : (held c.quantity ≡ false → Q ended) →
-      (held c.quantity ≡ true → Chosen noComplex (crosses v c) v.complex nobody → Q ended) →
-      (held c.quantity ≡ true → (j : ℕ) (m : Complex) → At noComplex (crosses v c) v.complex j m →
+  pub cross_turn-by : (held c.quantity ≡ false → Q ended) →
+      (held c.quantity ≡ true → Chosen no_complex (crosses v c) v.complex nobody → Q ended) →
+      (held c.quantity ≡ true → (j : ℕ) (m : Complex) → At no_complex (crosses v c) v.complex j m →
       Q (turned (cross i j (min c.quantity m.quantity) v))) →
-      Q (crossTurn i v)
-  unfolding crossTurn
-  crossTurn-by done alone meets =
-      go (held c.quantity) refl (first (crosses v c) limitThenId v.complex) (first-chosen noComplex (crosses v c) limitThenId v.complex)
+      Q (cross_turn i v)
+  unfolding cross_turn
+  cross_turn-by done alone meets =
+      go (held c.quantity) refl (first (crosses v c) limit_then_id v.complex) (first-chosen no_complex (crosses v c) limit_then_id v.complex)
     where
-      go : (b : Bool) → held c.quantity ≡ b → (x : Choice Complex) → Chosen noComplex (crosses v c) v.complex x →
+      go : (b : Bool) → held c.quantity ≡ b → (x : Choice Complex) → Chosen no_complex (crosses v c) v.complex x →
           Q (if not b then ended else elim x as (λ _. Turn) [
             | nobody ↦ ended
             | picked j m ↦ turned (cross i j (min c.quantity m.quantity) v)

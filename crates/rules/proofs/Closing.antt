@@ -13,11 +13,11 @@ use Rattle.rules.specs.declared.Complex.{Complex}
 use Rattle.rules.specs.declared.Legging.{Legging}
 use Rattle.rules.specs.declared.Venue.{Venue}
 use Rattle.rules.specs.Base.{if◌then◌else◌, held, keep}
-use Rattle.rules.specs.Words.{noRegular, noComplex, withRegular, withComplex, leggingAt, statusOf, isComplexOf}
-use Rattle.rules.specs.Settings.{figureNow, increment, percent}
-use Rattle.rules.specs.Prices.{betterOf, shownSize, showsAt, bestIn, sizeIn, bestRegular, bestSize, clearPrice, away, marketBest, taken1, taken2, inBand, showsFor}
-use Rattle.rules.specs.Standing.{findComplex, parentOf, bothOpen, displayedNoWorse, pairs, verdictOf, verdict, otherClear, otherSize}
-use Rattle.rules.specs.Places.{holdsRegular, holdsComplex, packed, closeGaps}
+use Rattle.rules.specs.Words.{no_regular, no_complex, with_regular, with_complex, legging_at, status_of, is_complex_of}
+use Rattle.rules.specs.Settings.{figure_now, increment, percent}
+use Rattle.rules.specs.Prices.{better_of, shown_size, shows_at, best_in, size_in, best_regular, best_size, clear_price, away, market_best, taken1, taken2, in_band, shows_for}
+use Rattle.rules.specs.Standing.{find_complex, parent_of, both_open, displayed_no_worse, pairs, verdict_of, verdict, other_clear, other_size}
+use Rattle.rules.specs.Places.{holds_regular, holds_complex, packed, close_gaps}
 use Rattle.rules.proofs.Tests.{free-none}
 
 -- Places --------------------------------------------------------------------------------------
@@ -201,69 +201,69 @@ module _ {A : Type 0} (holds : A → Bool) (none : A) where
 
 -- The venue -----------------------------------------------------------------------------------
 
-not-shown : (s d : ℕ) (o : Regular) → held o.quantity ≡ false → showsAt s d o ≡ false
-unfolding showsAt shownSize
+not-shown : (s d : ℕ) (o : Regular) → held o.quantity ≡ false → shows_at s d o ≡ false
+unfolding shows_at shown_size
 not-shown s d o e = let z : o.quantity - o.reserve ≡ 0 = (let q = free-none o.quantity e in omega arith) in rw z
 
-best-packed : (s d : ℕ) (os : List Regular) → bestIn s d (packed holdsRegular noRegular os) ≡ bestIn s d os
-unfolding bestIn
+best-packed : (s d : ℕ) (os : List Regular) → best_in s d (packed holds_regular no_regular os) ≡ best_in s d os
+unfolding best_in
 best-packed s d os =
-    over-packed holdsRegular noRegular (bestIn s d) (λ o r. if showsAt s d o then betterOf d o.price r else r)
+    over-packed holds_regular no_regular (best_in s d) (λ o r. if shows_at s d o then better_of d o.price r else r)
     (λ o l. refl) (λ o r e. rw (not-shown s d o e)) refl os
 
-size-packed : (s d p : ℕ) (os : List Regular) → sizeIn s d p (packed holdsRegular noRegular os) ≡ sizeIn s d p os
-unfolding sizeIn showsFor
+size-packed : (s d p : ℕ) (os : List Regular) → size_in s d p (packed holds_regular no_regular os) ≡ size_in s d p os
+unfolding size_in shows_for
 size-packed s d p os =
-    over-packed holdsRegular noRegular (sizeIn s d p) (λ o r. if showsFor s d p o then shownSize o + r else r)
+    over-packed holds_regular no_regular (size_in s d p) (λ o r. if shows_for s d p o then shown_size o + r else r)
     (λ o l. refl) (λ o r e. rw (not-shown s d o e)) refl os
 
-find-packed : (id : ℕ) (cs : List Complex) → findComplex id (packed holdsComplex noComplex cs) ≡ findComplex id cs
-unfolding findComplex isComplexOf
+find-packed : (id : ℕ) (cs : List Complex) → find_complex id (packed holds_complex no_complex cs) ≡ find_complex id cs
+unfolding find_complex is_complex_of
 find-packed id cs =
-    over-packed holdsComplex noComplex (findComplex id) (λ c r. if held c.quantity && eqb c.id id then c else r)
+    over-packed holds_complex no_complex (find_complex id) (λ c r. if held c.quantity && eqb c.id id then c else r)
     (λ c l. refl) (λ c r e. rw e) refl cs
 
 module _ (v : Venue) where
-  pub best-closed : (s d : ℕ) → bestRegular (closeGaps v) s d ≡ bestRegular v s d
-  unfolding bestRegular closeGaps withRegular withComplex
+  pub best-closed : (s d : ℕ) → best_regular (close_gaps v) s d ≡ best_regular v s d
+  unfolding best_regular close_gaps with_regular with_complex
   best-closed s d = best-packed s d v.regular
 
-  pub size-closed : (s d : ℕ) → bestSize (closeGaps v) s d ≡ bestSize v s d
-  unfolding bestSize closeGaps withRegular withComplex bestRegular
+  pub size-closed : (s d : ℕ) → best_size (close_gaps v) s d ≡ best_size v s d
+  unfolding best_size close_gaps with_regular with_complex best_regular
   size-closed s d = rw best-packed (size-packed s d _ v.regular)
 
-  pub parent-closed : (l : Legging) → parentOf (closeGaps v) l ≡ parentOf v l
-  unfolding parentOf closeGaps withRegular withComplex
+  pub parent-closed : (l : Legging) → parent_of (close_gaps v) l ≡ parent_of v l
+  unfolding parent_of close_gaps with_regular with_complex
   parent-closed l = find-packed l.parent v.complex
 
-  pub clear-closed : (s d : ℕ) → clearPrice (closeGaps v) s d ≡ clearPrice v s d
-  unfolding clearPrice leggingAt
-  clear-closed s d = rw best-closed (unfold closeGaps withRegular withComplex in refl)
+  pub clear-closed : (s d : ℕ) → clear_price (close_gaps v) s d ≡ clear_price v s d
+  unfolding clear_price legging_at
+  clear-closed s d = rw best-closed (unfold close_gaps with_regular with_complex in refl)
 
-  pub open-closed : (c : Complex) → bothOpen (closeGaps v) c ≡ bothOpen v c
-  unfolding bothOpen statusOf closeGaps withRegular withComplex
+  pub open-closed : (c : Complex) → both_open (close_gaps v) c ≡ both_open v c
+  unfolding both_open status_of close_gaps with_regular with_complex
   open-closed c = refl
 
-  pub market-closed : (s d : ℕ) → marketBest (closeGaps v) s d ≡ marketBest v s d
-  unfolding marketBest away
-  market-closed s d = rw best-closed (unfold closeGaps withRegular withComplex in refl)
+  pub market-closed : (s d : ℕ) → market_best (close_gaps v) s d ≡ market_best v s d
+  unfolding market_best away
+  market-closed s d = rw best-closed (unfold close_gaps with_regular with_complex in refl)
 
-  pub band-closed : (c : Complex) (n : ℤ) → inBand (closeGaps v) c n ≡ inBand v c n
-  unfolding inBand taken1 taken2
-  band-closed c n = simp market-closed (unfold percent figureNow closeGaps withRegular withComplex in refl)
+  pub band-closed : (c : Complex) (n : ℤ) → in_band (close_gaps v) c n ≡ in_band v c n
+  unfolding in_band taken1 taken2
+  band-closed c n = simp market-closed (unfold percent figure_now close_gaps with_regular with_complex in refl)
 
-  pub displayed-closed : (s d p : ℕ) → displayedNoWorse (closeGaps v) s d p ≡ displayedNoWorse v s d p
-  unfolding displayedNoWorse
-  displayed-closed s d p = rw best-closed (unfold increment figureNow closeGaps withRegular withComplex in refl)
+  pub displayed-closed : (s d p : ℕ) → displayed_no_worse (close_gaps v) s d p ≡ displayed_no_worse v s d p
+  unfolding displayed_no_worse
+  displayed-closed s d p = rw best-closed (unfold increment figure_now close_gaps with_regular with_complex in refl)
 
-  pub pairs-closed : (c : Complex) (s d p k : ℕ) → pairs (closeGaps v) c s d p k ≡ pairs v c s d p k
-  unfolding pairs otherClear otherSize
+  pub pairs-closed : (c : Complex) (s d p k : ℕ) → pairs (close_gaps v) c s d p k ≡ pairs v c s d p k
+  unfolding pairs other_clear other_size
   pairs-closed c s d p k = simp (clear-closed, size-closed)
 
-  pub verdictOf-closed : (c : Complex) (s d : ℕ) (l : Legging) → verdictOf (closeGaps v) c s d l ≡ verdictOf v c s d l
-  unfolding verdictOf
-  verdictOf-closed c s d l = simp (displayed-closed, pairs-closed, band-closed, open-closed)
+  pub verdict_of-closed : (c : Complex) (s d : ℕ) (l : Legging) → verdict_of (close_gaps v) c s d l ≡ verdict_of v c s d l
+  unfolding verdict_of
+  verdict_of-closed c s d l = simp (displayed-closed, pairs-closed, band-closed, open-closed)
 
-  pub verdict-closed : (n : ℕ) (l : Legging) → verdict (closeGaps v) n l ≡ verdict v n l
+  pub verdict-closed : (n : ℕ) (l : Legging) → verdict (close_gaps v) n l ≡ verdict v n l
   unfolding verdict
-  verdict-closed n l = simp (parent-closed, verdictOf-closed)
+  verdict-closed n l = simp (parent-closed, verdict_of-closed)

@@ -9,67 +9,67 @@ use Rattle.rules.specs.declared.Legging.{Legging}
 use Rattle.rules.specs.declared.Venue.{Venue}
 use Rattle.rules.specs.declared.Verdict.{Verdict}
 use Rattle.rules.specs.Base.{held}
-use Rattle.rules.specs.Words.{complexAt}
+use Rattle.rules.specs.Words.{complex_at}
 use Rattle.rules.specs.Effects.{Effect, Turn, ◌⟫◌, ended, nothing, repeat, report, turned}
-use Rattle.rules.specs.Removal.{remove, removeOf}
-use Rattle.rules.specs.Standing.{settle, showAgain, verdict}
-use Rattle.rules.specs.Trading.{fillComplex, fillRegular, pairOff, tradeAtPrice, tradeWith}
-use Rattle.rules.specs.Order.{hit, meet, meetTurn}
-use Rattle.rules.specs.Complex.{anyClosed, cancel, cancelComplex, cancelRegular, cross, crossTurn, eachOf, legIn, legInTurn, legsIn, restsRegular, unitsIn, touch, touches, work}
-use Rattle.rules.proofs.Cases.{crossTurn-by, if-by, meetTurn-by, repeat-by, at-price-by}
+use Rattle.rules.specs.Removal.{remove, remove_of}
+use Rattle.rules.specs.Standing.{settle, show_again, verdict}
+use Rattle.rules.specs.Trading.{fill_complex, fill_regular, pair_off, trade_at_price, trade_with}
+use Rattle.rules.specs.Order.{hit, meet, meet_turn}
+use Rattle.rules.specs.Complex.{any_closed, cancel, cancel_complex, cancel_regular, cross, cross_turn, each_of, leg_in, leg_in_turn, legs_in, rests_regular, units_in, touch, touches, work}
+use Rattle.rules.proofs.Cases.{cross_turn-by, if-by, meet_turn-by, repeat-by, at-price-by}
 
 -- f for each order of a sweep
-pub keeps-eachOf : (P : Venue → Type 0) (f : ℕ → Venue → Effect) → ((i : ℕ) (v : Venue) → P v → P (f i v).venue) → (places : List ℕ) (v : Venue) → P v → P (eachOf f places v).venue
-unfolding eachOf nothing ◌⟫◌
-keeps-eachOf P f ok [] v h = h
-keeps-eachOf P f ok (i ∷ places) v h = keeps-eachOf P f ok places _ (ok i v h)
+pub keeps-each_of : (P : Venue → Type 0) (f : ℕ → Venue → Effect) → ((i : ℕ) (v : Venue) → P v → P (f i v).venue) → (places : List ℕ) (v : Venue) → P v → P (each_of f places v).venue
+unfolding each_of nothing ◌⟫◌
+keeps-each_of P f ok [] v h = h
+keeps-each_of P f ok (i ∷ places) v h = keeps-each_of P f ok places _ (ok i v h)
 
 -- fills, removals and showing again keep P
 pub record Lasts (P : Venue → Type 0) : Type 0 where
-  pub fillR : (i k : ℕ) (v : Venue) → P v → P (fillRegular i k v)
-  pub fillC : (i k : ℕ) (v : Venue) → P v → P (fillComplex i k v)
+  pub fill_r : (i k : ℕ) (v : Venue) → P v → P (fill_regular i k v)
+  pub fill_c : (i k : ℕ) (v : Venue) → P v → P (fill_complex i k v)
   pub gone : (f : ℕ → Legging → Verdict) (v : Venue) → P v → P (remove f v).venue
-  pub again : (v : Venue) → P v → P (showAgain v)
+  pub again : (v : Venue) → P v → P (show_again v)
 
 module _ {P : Venue → Type 0} (lasts : Lasts P) where
-  pub keeps-removeOf : (id : ℕ) (c : Cause) (v : Venue) → P v → P (removeOf id c v).venue
-  unfolding removeOf
-  keeps-removeOf id c v h = lasts.gone _ v h
+  pub keeps-remove_of : (id : ℕ) (c : Cause) (v : Venue) → P v → P (remove_of id c v).venue
+  unfolding remove_of
+  keeps-remove_of id c v h = lasts.gone _ v h
 
   pub keeps-settle : (v : Venue) → P v → P (settle v).venue
   unfolding settle
-  keeps-settle v h = lasts.gone (verdict (showAgain v)) (showAgain v) (lasts.again v h)
+  keeps-settle v h = lasts.gone (verdict (show_again v)) (show_again v) (lasts.again v h)
 
-  pub keeps-at-price : (x s d p fuel k : ℕ) (v : Venue) → P v → P (tradeAtPrice fuel x s d p k v).venue
-  unfolding nothing ◌⟫◌ tradeWith report
-  keeps-at-price x s d p zero k v h = unfold tradeAtPrice in h
+  pub keeps-at-price : (x s d p fuel k : ℕ) (v : Venue) → P v → P (trade_at_price fuel x s d p k v).venue
+  unfolding nothing ◌⟫◌ trade_with report
+  keeps-at-price x s d p zero k v h = unfold trade_at_price in h
   keeps-at-price x s d p (suc fuel) k v h =
-      at-price-by (λ e. P e.venue) fuel x s d p k v (λ _. h) (λ _ _. h) (λ _ i o _. keeps-at-price x s d p fuel _ _ (lasts.fillR i _ v h))
+      at-price-by (λ e. P e.venue) fuel x s d p k v (λ _. h) (λ _ _. h) (λ _ i o _. keeps-at-price x s d p fuel _ _ (lasts.fill_r i _ v h))
 
-  keeps-pairOff : (i id : ℕ) (n : ℤ) (k : ℕ) (v : Venue) → P v → P (pairOff i id n k v).venue
-  unfolding pairOff report ◌⟫◌
-  keeps-pairOff i id n k v h = keeps-removeOf _ _ _ (lasts.fillC i k v h)
+  keeps-pair_off : (i id : ℕ) (n : ℤ) (k : ℕ) (v : Venue) → P v → P (pair_off i id n k v).venue
+  unfolding pair_off report ◌⟫◌
+  keeps-pair_off i id n k v h = keeps-remove_of _ _ _ (lasts.fill_c i k v h)
 
   -- each from the fill of its taker on
-  pub meet-from : (i j k : ℕ) (v : Venue) → P (fillRegular i k v) → P (meet i j k v).venue
-  unfolding meet tradeWith report
-  meet-from i j k v h = lasts.fillR j k _ h
+  pub meet-from : (i j k : ℕ) (v : Venue) → P (fill_regular i k v) → P (meet i j k v).venue
+  unfolding meet trade_with report
+  meet-from i j k v h = lasts.fill_r j k _ h
 
-  pub hit-from : (i : ℕ) (l : Legging) (k : ℕ) (v : Venue) → P (fillRegular i k v) → P (hit i l k v).venue
+  pub hit-from : (i : ℕ) (l : Legging) (k : ℕ) (v : Venue) → P (fill_regular i k v) → P (hit i l k v).venue
   unfolding hit report nothing ◌⟫◌
-  hit-from i l k v h = keeps-pairOff _ _ _ k _ (keeps-at-price _ _ _ _ k k _ h)
+  hit-from i l k v h = keeps-pair_off _ _ _ k _ (keeps-at-price _ _ _ _ k k _ h)
 
-  pub cross-from : (i j k : ℕ) (v : Venue) → P (fillComplex i k v) → P (cross i j k v).venue
+  pub cross-from : (i j k : ℕ) (v : Venue) → P (fill_complex i k v) → P (cross i j k v).venue
   unfolding cross report ◌⟫◌
-  cross-from i j k v h = keeps-removeOf _ _ _ (keeps-removeOf _ _ _ (lasts.fillC j k _ h))
+  cross-from i j k v h = keeps-remove_of _ _ _ (keeps-remove_of _ _ _ (lasts.fill_c j k _ h))
 
-  pub keeps-legIn : (i a b k : ℕ) (v : Venue) → P v → P (legIn i a b k v).venue
-  unfolding legIn report ◌⟫◌
-  keeps-legIn i a b k v h = keeps-pairOff i _ _ k _ (keeps-at-price _ _ _ _ _ _ _ (keeps-at-price _ _ _ _ _ _ v h))
+  pub keeps-leg_in : (i a b k : ℕ) (v : Venue) → P v → P (leg_in i a b k v).venue
+  unfolding leg_in report ◌⟫◌
+  keeps-leg_in i a b k v h = keeps-pair_off i _ _ k _ (keeps-at-price _ _ _ _ _ _ _ (keeps-at-price _ _ _ _ _ _ v h))
 
   pub keeps-touch : (i : ℕ) (v : Venue) → P v → P (touch i v).venue
   unfolding touch nothing
-  keeps-touch i v h = if-by (λ (e : Effect). P e.venue) (touches v (complexAt v i)) (λ _. lasts.gone _ v h) (λ _. h)
+  keeps-touch i v h = if-by (λ (e : Effect). P e.venue) (touches v (complex_at v i)) (λ _. lasts.gone _ v h) (λ _. h)
 
   -- Turns
   abbrev Turns : Turn → Type 0
@@ -82,33 +82,33 @@ module _ {P : Venue → Type 0} (lasts : Lasts P) where
   keeps-repeat turn ok (suc fuel) v h =
       repeat-by (λ e. P e.venue) fuel turn v (λ _. h) (λ e is. keeps-repeat turn ok fuel _ (subst Turns is (ok v h)))
 
-  meetTurn-keeps : (i : ℕ) (v : Venue) → P v → Turns (meetTurn i v)
-  meetTurn-keeps i v h =
-      meetTurn-by Turns i v (λ _. tt) (λ _ _ _. tt) (λ _ _ _. hit-from i _ _ v (lasts.fillR i _ v h)) (λ _ j _ _ _. meet-from i j _ v (lasts.fillR i _ v h))
+  meet_turn-keeps : (i : ℕ) (v : Venue) → P v → Turns (meet_turn i v)
+  meet_turn-keeps i v h =
+      meet_turn-by Turns i v (λ _. tt) (λ _ _ _. tt) (λ _ _ _. hit-from i _ _ v (lasts.fill_r i _ v h)) (λ _ j _ _ _. meet-from i j _ v (lasts.fill_r i _ v h))
 
-  pub keeps-matching : (i fuel : ℕ) (v : Venue) → P v → P (repeat fuel (meetTurn i) v).venue
-  keeps-matching i = keeps-repeat (meetTurn i) (meetTurn-keeps i)
+  pub keeps-matching : (i fuel : ℕ) (v : Venue) → P v → P (repeat fuel (meet_turn i) v).venue
+  keeps-matching i = keeps-repeat (meet_turn i) (meet_turn-keeps i)
 
-  crossTurn-keeps : (i : ℕ) (v : Venue) → P v → Turns (crossTurn i v)
-  crossTurn-keeps i v h = crossTurn-by Turns i v (λ _. tt) (λ _ _. tt) (λ _ j _ _. cross-from i j _ v (lasts.fillC i _ v h))
+  cross_turn-keeps : (i : ℕ) (v : Venue) → P v → Turns (cross_turn i v)
+  cross_turn-keeps i v h = cross_turn-by Turns i v (λ _. tt) (λ _ _. tt) (λ _ j _ _. cross-from i j _ v (lasts.fill_c i _ v h))
 
-  pub keeps-crossing : (i fuel : ℕ) (v : Venue) → P v → P (repeat fuel (crossTurn i) v).venue
-  keeps-crossing i = keeps-repeat (crossTurn i) (crossTurn-keeps i)
+  pub keeps-crossing : (i fuel : ℕ) (v : Venue) → P v → P (repeat fuel (cross_turn i) v).venue
+  keeps-crossing i = keeps-repeat (cross_turn i) (cross_turn-keeps i)
 
-  legInTurn-keeps : (i : ℕ) (v : Venue) → P v → Turns (legInTurn i v)
-  unfolding legInTurn
-  legInTurn-keeps i v h = if-by Turns (legsIn v (complexAt v i) _ _ && held (unitsIn v (complexAt v i))) (λ _. keeps-legIn i _ _ _ v h) (λ _. tt)
+  leg_in_turn-keeps : (i : ℕ) (v : Venue) → P v → Turns (leg_in_turn i v)
+  unfolding leg_in_turn
+  leg_in_turn-keeps i v h = if-by Turns (legs_in v (complex_at v i) _ _ && held (units_in v (complex_at v i))) (λ _. keeps-leg_in i _ _ _ v h) (λ _. tt)
 
-  pub keeps-legging : (i fuel : ℕ) (v : Venue) → P v → P (repeat fuel (legInTurn i) v).venue
-  keeps-legging i = keeps-repeat (legInTurn i) (legInTurn-keeps i)
+  pub keeps-legging : (i fuel : ℕ) (v : Venue) → P v → P (repeat fuel (leg_in_turn i) v).venue
+  keeps-legging i = keeps-repeat (leg_in_turn i) (leg_in_turn-keeps i)
 
   pub keeps-work : (i : ℕ) (v : Venue) → P v → P (work i v).venue
   unfolding work nothing ◌⟫◌
   keeps-work i v h =
-      if-by (λ (e : Effect). P e.venue) (anyClosed v (complexAt v i)) (λ _. h)
+      if-by (λ (e : Effect). P e.venue) (any_closed v (complex_at v i)) (λ _. h)
       (λ _. keeps-legging i _ _ (keeps-touch i _ (keeps-crossing i _ v h)))
 
   pub keeps-cancel : (id : ℕ) (v : Venue) → P v → P (cancel id v).venue
-  unfolding cancel cancelRegular cancelComplex report ◌⟫◌
+  unfolding cancel cancel_regular cancel_complex report ◌⟫◌
   keeps-cancel id v h =
-      keeps-settle _ (if-by (λ (e : Effect). P e.venue) (restsRegular v id) (λ _. lasts.fillR _ _ v h) (λ _. keeps-removeOf _ _ _ (lasts.fillC _ _ v h)))
+      keeps-settle _ (if-by (λ (e : Effect). P e.venue) (rests_regular v id) (λ _. lasts.fill_r _ _ v h) (λ _. keeps-remove_of _ _ _ (lasts.fill_c _ _ v h)))

@@ -12,8 +12,8 @@ use Rattle.rules.specs.declared.Legging.{Legging}
 use Rattle.rules.specs.declared.Regular.{Regular}
 use Rattle.rules.specs.declared.Venue.{Venue}
 use Rattle.rules.specs.Base.{held}
-use Rattle.rules.specs.Words.{complexAt, noComplex, noLegging, noRegular, regularAt, withComplex, withRegular}
-use Rattle.rules.specs.Trading.{fillComplex, fillRegular, lessComplex, lessRegular}
+use Rattle.rules.specs.Words.{complex_at, no_complex, no_legging, no_regular, regular_at, with_complex, with_regular}
+use Rattle.rules.specs.Trading.{fill_complex, fill_regular, less_complex, less_regular}
 use Rattle.rules.proofs.Tests.{held-pos, pos-held}
 
 -- Place by place ------------------------------------------------------------------------------
@@ -54,7 +54,7 @@ still-some p q le h = let z = held-pos p h in pos-held q (omega arith)
 -- Regular orders ------------------------------------------------------------------------------
 
 abbrev pub reg : Venue → ℕ → Regular
-reg v i = get_or v.regular i noRegular
+reg v i = get_or v.regular i no_regular
 
 pub record Lesser (a b : Regular) : Type 0 where
   pub id : a.id ≡ b.id
@@ -76,28 +76,28 @@ lesser-trans h k = record {
 }
 
 abbrev pub Fewer : List Regular → List Regular → Type 0
-Fewer = Placewise noRegular Lesser
+Fewer = Placewise no_regular Lesser
 
 pub fewer-refl : (a : List Regular) → Fewer a a
-fewer-refl = placewise-refl noRegular Lesser lesser-refl
+fewer-refl = placewise-refl no_regular Lesser lesser-refl
 
 pub fewer-trans : {a b c : List Regular} → Fewer a b → Fewer b c → Fewer a c
-fewer-trans = placewise-trans noRegular Lesser (λ _ _ _. lesser-trans)
+fewer-trans = placewise-trans no_regular Lesser (λ _ _ _. lesser-trans)
 
-pub fill-fewer : (i k : ℕ) (v : Venue) → Fewer (fillRegular i k v).regular v.regular
-unfolding fillRegular withRegular regularAt lessRegular
-fill-fewer i k v = placewise-set noRegular Lesser lesser-refl v.regular i _ (record { id = refl; series = refl; side = refl; price = refl; quantity = omega arith })
+pub fill-fewer : (i k : ℕ) (v : Venue) → Fewer (fill_regular i k v).regular v.regular
+unfolding fill_regular with_regular regular_at less_regular
+fill-fewer i k v = placewise-set no_regular Lesser lesser-refl v.regular i _ (record { id = refl; series = refl; side = refl; price = refl; quantity = omega arith })
 
 pub still-held : {a b : Regular} → Lesser a b → held a.quantity ≡ true → held b.quantity ≡ true
 still-held {a} {b} h = still-some a.quantity b.quantity h.quantity
 
-pub held_fits : (l : List Regular) (i : ℕ) → held (get_or l i noRegular).quantity ≡ true → i < length l
-held_fits = held-there noRegular (λ o. o.quantity) refl
+pub held_fits : (l : List Regular) (i : ℕ) → held (get_or l i no_regular).quantity ≡ true → i < length l
+held_fits = held-there no_regular (λ o. o.quantity) refl
 
 -- Complex orders ------------------------------------------------------------------------------
 
 abbrev pub cx : Venue → ℕ → Complex
-cx v i = get_or v.complex i noComplex
+cx v i = get_or v.complex i no_complex
 
 -- two complex orders have the same legs
 pub record SameLegs (a b : Complex) : Type 0 where
@@ -133,72 +133,72 @@ pub record LesserC (a b : Complex) : Type 0 where
   pub legs : SameLegs a b
   pub quantity : a.quantity ≤ b.quantity
 
-lesserC-refl : (c : Complex) → LesserC c c
-lesserC-refl c = record { id = refl; legs = same-legs refl; quantity = omega arith }
+lesser_c-refl : (c : Complex) → LesserC c c
+lesser_c-refl c = record { id = refl; legs = same-legs refl; quantity = omega arith }
 
-lesserC-trans : {a b c : Complex} → LesserC a b → LesserC b c → LesserC a c
-lesserC-trans h k = record { id = h.id ∙ k.id; legs = legs-trans h.legs k.legs; quantity = omega arith }
+lesser_c-trans : {a b c : Complex} → LesserC a b → LesserC b c → LesserC a c
+lesser_c-trans h k = record { id = h.id ∙ k.id; legs = legs-trans h.legs k.legs; quantity = omega arith }
 
 abbrev pub FewerC : List Complex → List Complex → Type 0
-FewerC = Placewise noComplex LesserC
+FewerC = Placewise no_complex LesserC
 
-pub fewerC-refl : (a : List Complex) → FewerC a a
-fewerC-refl = placewise-refl noComplex LesserC lesserC-refl
+pub fewer_c-refl : (a : List Complex) → FewerC a a
+fewer_c-refl = placewise-refl no_complex LesserC lesser_c-refl
 
-pub fewerC-trans : {a b c : List Complex} → FewerC a b → FewerC b c → FewerC a c
-fewerC-trans = placewise-trans noComplex LesserC (λ _ _ _. lesserC-trans)
+pub fewer_c-trans : {a b c : List Complex} → FewerC a b → FewerC b c → FewerC a c
+fewer_c-trans = placewise-trans no_complex LesserC (λ _ _ _. lesser_c-trans)
 
-pub less-lesserC : (k : ℕ) (c : Complex) → LesserC (lessComplex k c) c
-unfolding lessComplex
-less-lesserC k c = record {
+pub less-lesser_c : (k : ℕ) (c : Complex) → LesserC (less_complex k c) c
+unfolding less_complex
+less-lesser_c k c = record {
   id = refl;
   legs = record { series1 = refl; side1 = refl; series2 = refl; side2 = refl; ratio1 = refl; ratio2 = refl };
   quantity = omega arith;
 }
 
-pub fill-fewerC : (i k : ℕ) (v : Venue) → FewerC (fillComplex i k v).complex v.complex
-unfolding fillComplex withComplex complexAt
-fill-fewerC i k v = placewise-set noComplex LesserC lesserC-refl v.complex i _ (less-lesserC k (cx v i))
+pub fill-fewer_c : (i k : ℕ) (v : Venue) → FewerC (fill_complex i k v).complex v.complex
+unfolding fill_complex with_complex complex_at
+fill-fewer_c i k v = placewise-set no_complex LesserC lesser_c-refl v.complex i _ (less-lesser_c k (cx v i))
 
-pub still-heldC : {a b : Complex} → LesserC a b → held a.quantity ≡ true → held b.quantity ≡ true
-still-heldC {a} {b} h = still-some a.quantity b.quantity h.quantity
+pub still-held_c : {a b : Complex} → LesserC a b → held a.quantity ≡ true → held b.quantity ≡ true
+still-held_c {a} {b} h = still-some a.quantity b.quantity h.quantity
 
-pub held-fitsC : (l : List Complex) (i : ℕ) → held (get_or l i noComplex).quantity ≡ true → i < length l
-held-fitsC = held-there noComplex (λ c. c.quantity) refl
+pub held-fits_c : (l : List Complex) (i : ℕ) → held (get_or l i no_complex).quantity ≡ true → i < length l
+held-fits_c = held-there no_complex (λ c. c.quantity) refl
 
 -- Legging orders ------------------------------------------------------------------------------
 
 abbrev pub lg : Venue → ℕ → Legging
-lg v n = get_or v.legging n noLegging
+lg v n = get_or v.legging n no_legging
 
 -- What filling leaves as it was ---------------------------------------------------------------
 
 module _ (i q : ℕ) (v : Venue) where
   -- every other place; and what is filled has less
-  pub filled-other : (n : ℕ) → n ≢ i → reg (fillRegular i q v) n ≡ reg v n
-  unfolding fillRegular withRegular
-  filled-other n ne = get_or-set_other v.regular i n _ noRegular ne
+  pub filled-other : (n : ℕ) → n ≢ i → reg (fill_regular i q v) n ≡ reg v n
+  unfolding fill_regular with_regular
+  filled-other n ne = get_or-set_other v.regular i n _ no_regular ne
 
-  pub filled-same : i < length v.regular → reg (fillRegular i q v) i ≡ lessRegular q (reg v i)
-  unfolding fillRegular withRegular regularAt
-  filled-same f = get_or-set_same v.regular i _ noRegular f
+  pub filled-same : i < length v.regular → reg (fill_regular i q v) i ≡ less_regular q (reg v i)
+  unfolding fill_regular with_regular regular_at
+  filled-same f = get_or-set_same v.regular i _ no_regular f
 
-  pub fill-complex : (fillRegular i q v).complex ≡ v.complex
-  unfolding fillRegular withRegular
+  pub fill-complex : (fill_regular i q v).complex ≡ v.complex
+  unfolding fill_regular with_regular
   fill-complex = refl
 
-  pub fill-legging : (fillRegular i q v).legging ≡ v.legging
-  unfolding fillRegular withRegular
+  pub fill-legging : (fill_regular i q v).legging ≡ v.legging
+  unfolding fill_regular with_regular
   fill-legging = refl
 
-  pub fill-last : (fillRegular i q v).last ≡ v.last
-  unfolding fillRegular withRegular
+  pub fill-last : (fill_regular i q v).last ≡ v.last
+  unfolding fill_regular with_regular
   fill-last = refl
 
-  pub fillC-regular : (fillComplex i q v).regular ≡ v.regular
-  unfolding fillComplex withComplex
-  fillC-regular = refl
+  pub fill_c-regular : (fill_complex i q v).regular ≡ v.regular
+  unfolding fill_complex with_complex
+  fill_c-regular = refl
 
-  pub fillC-last : (fillComplex i q v).last ≡ v.last
-  unfolding fillComplex withComplex
-  fillC-last = refl
+  pub fill_c-last : (fill_complex i q v).last ≡ v.last
+  unfolding fill_complex with_complex
+  fill_c-last = refl

@@ -11,8 +11,8 @@ use mir.Syntax.{w32, w64}
 use mir.Val.{SFits, to_z, of_z}
 use mir.ValLaws.{to_z-of_z}
 use Rattle.rules.specs.Base.{if◌then◌else◌}
-use Rattle.rules.specs.Words.{signTimes}
-use Rattle.rules.specs.Prices.{displayedPrice, nearNet}
+use Rattle.rules.specs.Words.{sign_times}
+use Rattle.rules.specs.Prices.{displayed_price, near_net}
 use borrow.Author.Tests.{ltb-true}
 use Rattle.rules.proofs.Integers.{plus, minus, add_is, abs_is, abs-add, abs_neg, mul-plus, mul-minus, le_is, leb-same}
 
@@ -68,8 +68,8 @@ mul-fits k {z} f h =
 
 -- 100 t ≤ 100 o + x |o|, as a test of numbers
 near-is : (x : ℕ) (o t : ℤ) →
-    nearNet x o t ≡ leb (100 * plus t + minus (pos 100 *ℤ o +ℤ pos (x * nat_abs o))) (plus (pos 100 *ℤ o +ℤ pos (x * nat_abs o)) + 100 * minus t)
-unfolding nearNet
+    near_net x o t ≡ leb (100 * plus t + minus (pos 100 *ℤ o +ℤ pos (x * nat_abs o))) (plus (pos 100 *ℤ o +ℤ pos (x * nat_abs o)) + 100 * minus t)
+unfolding near_net
 near-is x o t = le_is (pos 100 *ℤ t) (pos 100 *ℤ o +ℤ pos (x * nat_abs o)) ∙ rw (mul-plus 100 t, mul-minus 100 t) refl
 
 -- x |o| by its parts, one of which is 0
@@ -80,7 +80,7 @@ none_of : (x n : ℕ) → n ≡ 0 → x * n ≡ 0
 none_of x n h = rw h (mul-zero x)
 
 -- of a credit it is 100 t + x o ≤ 100 o, of a debit 100 t ≤ 100 o + x o
-near-credit : (x : ℕ) (o t : ℤ) → plus o ≡ 0 → le_z (pos 100 *ℤ t +ℤ pos x *ℤ o) (pos 100 *ℤ o) ≡ nearNet x o t
+near-credit : (x : ℕ) (o t : ℤ) → plus o ≡ 0 → le_z (pos 100 *ℤ t +ℤ pos x *ℤ o) (pos 100 *ℤ o) ≡ near_net x o t
 unfolding plus minus
 near-credit x o t h =
     let a = add_is (pos 100 *ℤ t) (pos x *ℤ o) in
@@ -99,7 +99,7 @@ near-credit x o t h =
     (omega arith) (omega arith)
     ∙ sym (near-is x o t)
 
-near-debit : (x : ℕ) (o t : ℤ) → minus o ≡ 0 → le_z (pos 100 *ℤ t) (pos 100 *ℤ o +ℤ pos x *ℤ o) ≡ nearNet x o t
+near-debit : (x : ℕ) (o t : ℤ) → minus o ≡ 0 → le_z (pos 100 *ℤ t) (pos 100 *ℤ o +ℤ pos x *ℤ o) ≡ near_net x o t
 unfolding plus minus
 near-debit x o t h =
     let a = add_is (pos 100 *ℤ o) (pos x *ℤ o) in
@@ -161,14 +161,14 @@ module _ (x : ℕ) (small : x < 256) {o t : ℤ} (fo : SFits w64 o) (ft : SFits 
   debit-fits = sum_fits hundred-o part-fits (let a = small-100 fo os in let b = small-part in omega arith)
 
   pub credit-ok : plus o ≡ 0 →
-      le_z (to_z w64 (of_z w64 (to_z w64 (of_z w64 (pos 100 *ℤ T)) +ℤ to_z w64 (of_z w64 (X *ℤ O))))) (to_z w64 (of_z w64 (pos 100 *ℤ O))) ≡ nearNet x o t
+      le_z (to_z w64 (of_z w64 (to_z w64 (of_z w64 (pos 100 *ℤ T)) +ℤ to_z w64 (of_z w64 (X *ℤ O))))) (to_z w64 (of_z w64 (pos 100 *ℤ O))) ≡ near_net x o t
   credit-ok h =
       ap₂ le_z (sum-ok hundred-t part-fits credit-fits ∙ ap₂ (λ (a b : ℤ). a +ℤ b) (ap (λ (z : ℤ). pos 100 *ℤ z) (back ft)) (ap₂ (λ (a b : ℤ). a *ℤ b) x-is (back fo)))
       (back hundred-o ∙ ap (λ (z : ℤ). pos 100 *ℤ z) (back fo))
       ∙ near-credit x o t h
 
   pub debit-ok : minus o ≡ 0 →
-      le_z (to_z w64 (of_z w64 (pos 100 *ℤ T))) (to_z w64 (of_z w64 (to_z w64 (of_z w64 (pos 100 *ℤ O)) +ℤ to_z w64 (of_z w64 (X *ℤ O))))) ≡ nearNet x o t
+      le_z (to_z w64 (of_z w64 (pos 100 *ℤ T))) (to_z w64 (of_z w64 (to_z w64 (of_z w64 (pos 100 *ℤ O)) +ℤ to_z w64 (of_z w64 (X *ℤ O))))) ≡ near_net x o t
   debit-ok h =
       ap₂ le_z (back hundred-t ∙ ap (λ (z : ℤ). pos 100 *ℤ z) (back ft))
       (sum-ok hundred-o part-fits debit-fits ∙ ap₂ (λ (a b : ℤ). a +ℤ b) (ap (λ (z : ℤ). pos 100 *ℤ z) (back fo)) (ap₂ (λ (a b : ℤ). a *ℤ b) x-is (back fo)))
@@ -180,15 +180,15 @@ abs-if : (b : Bool) (p : ℕ) → nat_abs (if b then pos p else neg_ℤ (pos p))
 abs-if true p = refl
 abs-if false p = abs_neg (pos p)
 
-pub abs-sign-times : (d p : ℕ) → nat_abs (signTimes d (pos p)) ≡ p
-unfolding signTimes
+pub abs-sign-times : (d p : ℕ) → nat_abs (sign_times d (pos p)) ≡ p
+unfolding sign_times
 abs-sign-times d p = abs-if (eqb d 0) p
 
 -- Displayed prices ----------------------------------------------------------------------------
 
 -- an increment of 0 shows nothing
-pub displayed-none : (d p : ℕ) → displayedPrice 0 d p ≡ 0
-unfolding displayedPrice
+pub displayed-none : (d p : ℕ) → displayed_price 0 d p ≡ 0
+unfolding displayed_price
 displayed-none d p = none (eqb d 0)
   where
     none : (b : Bool) → (if b then p / 0 * 0 else (p + (0 - 1)) / 0 * 0) ≡ 0

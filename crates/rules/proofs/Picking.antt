@@ -6,7 +6,7 @@ use Prim.Native.Nat.{ℕ, zero, suc, ◌+◌, ◌<◌}
 use native.Mathlib.Nat.{zero-add}
 use native.Mathlib.Omega.{arith}
 use lib.ListN.{get_or, length, set}
-use Rattle.rules.specs.Base.{if◌then◌else◌, Choice, nobody, picked, ranked, firstFrom, first}
+use Rattle.rules.specs.Base.{if◌then◌else◌, Choice, nobody, picked, ranked, first_from, first}
 
 module _ {A : Type 0} (d : A) (candidate : A → Bool) where
   -- a is the candidate at place i of l
@@ -43,15 +43,15 @@ module _ {A : Type 0} (d : A) (candidate : A → Bool) where
             (suc h.0, omega arith, record { fits = let f = h.2.fits in omega arith; at = h.2.at; is = h.2.is })
         go false = (0, omega arith, record { fits = omega arith; at = refl; is = e })
 
-    first-from : (n : ℕ) (l : List A) → ChosenFrom n l (firstFrom candidate before n l)
-    unfolding firstFrom ChosenFrom
+    first-from : (n : ℕ) (l : List A) → ChosenFrom n l (first_from candidate before n l)
+    unfolding first_from ChosenFrom
     first-from n [] = λ i q. absurd (omega arith)
     first-from n (a ∷ l) = go (candidate a) refl (first-from (suc n) l)
       where
-        go : (t : Bool) → candidate a ≡ t → ChosenFrom (suc n) l (firstFrom candidate before (suc n) l) →
-            ChosenFrom n (a ∷ l) (if t then ranked before n a (firstFrom candidate before (suc n) l) else firstFrom candidate before (suc n) l)
-        go true e h = onto n a l (firstFrom candidate before (suc n) l) e h
-        go false e h = past n a l (firstFrom candidate before (suc n) l) e h
+        go : (t : Bool) → candidate a ≡ t → ChosenFrom (suc n) l (first_from candidate before (suc n) l) →
+            ChosenFrom n (a ∷ l) (if t then ranked before n a (first_from candidate before (suc n) l) else first_from candidate before (suc n) l)
+        go true e h = onto n a l (first_from candidate before (suc n) l) e h
+        go false e h = past n a l (first_from candidate before (suc n) l) e h
 
     whole : (l : List A) (x : Choice A) → ChosenFrom 0 l x → Chosen l x
     unfolding ChosenFrom
@@ -104,8 +104,8 @@ module _ {A : Type 0} (d : A) (candidate : A → Bool) (before : A → A → Boo
       go true t = kept t
       go false t = (e, λ i. elim i [ zero ↦ λ _ _. self a e | suc k ↦ λ q c. other t k (omega arith) c (before (get_or l k d) a) refl ])
 
-  least-from : (n : ℕ) (l : List A) → Least l (firstFrom candidate before n l)
-  unfolding firstFrom Least ChosenFrom
+  least-from : (n : ℕ) (l : List A) → Least l (first_from candidate before n l)
+  unfolding first_from Least ChosenFrom
   least-from n [] = tt
   least-from n (a ∷ l) = go (candidate a) refl (least-from (suc n) l) (first-from d candidate before (suc n) l)
     where
@@ -113,10 +113,10 @@ module _ {A : Type 0} (d : A) (candidate : A → Bool) (before : A → A → Boo
       some nobody h i q c r = true≢false (sym c ∙ h i q)
       some (picked j b) h i q c r = let z : ◌≡◌ {A = ℕ} 0 1 = cc in omega arith
 
-      go : (t : Bool) → candidate a ≡ t → Least l (firstFrom candidate before (suc n) l) → ChosenFrom d candidate (suc n) l (firstFrom candidate before (suc n) l) →
-          Least (a ∷ l) (if t then ranked before n a (firstFrom candidate before (suc n) l) else firstFrom candidate before (suc n) l)
-      go true e h k = least-onto n a l (firstFrom candidate before (suc n) l) e (some (firstFrom candidate before (suc n) l) k) h
-      go false e h k = least-past a l (firstFrom candidate before (suc n) l) e h
+      go : (t : Bool) → candidate a ≡ t → Least l (first_from candidate before (suc n) l) → ChosenFrom d candidate (suc n) l (first_from candidate before (suc n) l) →
+          Least (a ∷ l) (if t then ranked before n a (first_from candidate before (suc n) l) else first_from candidate before (suc n) l)
+      go true e h k = least-onto n a l (first_from candidate before (suc n) l) e (some (first_from candidate before (suc n) l) k) h
+      go false e h k = least-past a l (first_from candidate before (suc n) l) e h
 
   -- the pick is the first in rank
   pub first-least : (l : List A) (j : ℕ) (a : A) → first candidate before l ≡ picked j a →
@@ -127,8 +127,8 @@ module _ {A : Type 0} (d : A) (candidate : A → Bool) (before : A → A → Boo
 -- a place whose old and new element are no candidates is passed over
 module _ {A : Type 0} (d : A) (candidate : A → Bool) (before : A → A → Bool) where
   pub first-set : (n : ℕ) (l : List A) (i : ℕ) (x : A) → candidate (get_or l i d) ≡ false → candidate x ≡ false →
-      firstFrom candidate before n (set l i x) ≡ firstFrom candidate before n l
-  unfolding firstFrom
+      first_from candidate before n (set l i x) ≡ first_from candidate before n l
+  unfolding first_from
   first-set n [] i x a b = refl
   first-set n (y ∷ l) zero x a b = rw (a, b)
   first-set n (y ∷ l) (suc i) x a b = rw (first-set (suc n) l i x a b)

@@ -12,18 +12,18 @@ use Rattle.rules.specs.declared.Cause.{Cause}
 use Rattle.rules.specs.declared.Verdict.{Verdict}
 use Rattle.rules.specs.Records.{Report, answer, trade, pair, generated, removed, crossed, cancelled, looked}
 use Rattle.rules.specs.Effects.{Effect, nothing, report, ◌⟫◌, Turn, repeat}
-use Rattle.rules.specs.Removal.{remove, removeOf}
-use Rattle.rules.specs.Standing.{parentOf, verdict, settle, showAgain}
-use Rattle.rules.specs.Trading.{fillRegular, tradeWith}
-use Rattle.rules.specs.Order.{meet, hit, meetTurn, enterRegular, order}
+use Rattle.rules.specs.Removal.{remove, remove_of}
+use Rattle.rules.specs.Standing.{parent_of, verdict, settle, show_again}
+use Rattle.rules.specs.Trading.{fill_regular, trade_with}
+use Rattle.rules.specs.Order.{meet, hit, meet_turn, enter_regular, order}
 use Rattle.rules.specs.Generation.{generate}
-use Rattle.rules.specs.Complex.{touch, legInTurn, work, complex, sweep}
-use Rattle.rules.specs.Complex.{eachOf, limitedSweep, cancelRegular, cancelComplex, restsRegular, cancel}
-use Rattle.rules.specs.Places.{closeGaps}
+use Rattle.rules.specs.Complex.{touch, leg_in_turn, work, complex, sweep}
+use Rattle.rules.specs.Complex.{each_of, limited_sweep, cancel_regular, cancel_complex, rests_regular, cancel}
+use Rattle.rules.specs.Places.{close_gaps}
 use Rattle.rules.specs.Step.{perform, accept}
-use Rattle.rules.proofs.Cases.{if-by, meetTurn-by}
+use Rattle.rules.proofs.Cases.{if-by, meet_turn-by}
 pub use Rattle.rules.proofs.Takers.{All}
-use Rattle.rules.proofs.Takers.{Told, Takes, told-eachOf, told-generate, told-legging, told-pair, told-remove, told-repeat, told-take, told-then, told-touch, told-work}
+use Rattle.rules.proofs.Takers.{Told, Takes, told-each_of, told-generate, told-legging, told-pair, told-remove, told-repeat, told-take, told-then, told-touch, told-work}
 
 -- Effects -------------------------------------------------------------------------------------
 
@@ -51,29 +51,29 @@ module _ (P : Report → Type 0) (others : Others P) where
   all-report r h v = (h, tt)
 
   -- Loops
-  pub all-eachOf : (f : ℕ → Venue → Effect) → ((i : ℕ) (v : Venue) → All P (f i v)) → (places : List ℕ) (v : Venue) → All P (eachOf f places v)
-  all-eachOf f ok places v = told-eachOf P (λ _. Unit {0}) f places (λ i _ w _. (ok i w, tt)) v tt
+  pub all-each_of : (f : ℕ → Venue → Effect) → ((i : ℕ) (v : Venue) → All P (f i v)) → (places : List ℕ) (v : Venue) → All P (each_of f places v)
+  all-each_of f ok places v = told-each_of P (λ _. Unit {0}) f places (λ i _ w _. (ok i w, tt)) v tt
 
   -- Everything but generation and crossing
   pub all_remove : (f : ℕ → Legging → Verdict) (v : Venue) → All P (remove f v)
   all_remove = told-remove P others.removals
 
-  pub all-removeOf : (id : ℕ) (c : Cause) (v : Venue) → All P (removeOf id c v)
-  unfolding removeOf
-  all-removeOf id c v = all_remove _ v
+  pub all-remove_of : (id : ℕ) (c : Cause) (v : Venue) → All P (remove_of id c v)
+  unfolding remove_of
+  all-remove_of id c v = all_remove _ v
 
   pub all-settle : (v : Venue) → All P (settle v)
   unfolding settle
-  all-settle v = all_remove (verdict (showAgain v)) (showAgain v)
+  all-settle v = all_remove (verdict (show_again v)) (show_again v)
 
-  all-trade : (x d i k : ℕ) (v : Venue) → All P (tradeWith x d i k v)
-  unfolding tradeWith
-  all-trade x d i k v = all-report (trade _ d _ k x _) (others.trades _ d _ k x _) (fillRegular i k v)
+  all-trade : (x d i k : ℕ) (v : Venue) → All P (trade_with x d i k v)
+  unfolding trade_with
+  all-trade x d i k v = all-report (trade _ d _ k x _) (others.trades _ d _ k x _) (fill_regular i k v)
 
   all-hit : (i : ℕ) (l : Legging) (k : ℕ) (v : Venue) → All P (hit i l k v)
   unfolding hit
   all-hit i l k v =
-      let by = takes others (parentOf v l).id in
+      let by = takes others (parent_of v l).id in
       all_then _ _ (all_then _ _ (all-report (trade _ _ _ k _ _) (others.trades _ _ _ k _ _) _) (told-take P _ by _ _ _ k k _)) (told-pair P _ by _ _ k _)
 
   all_meet : (i j k : ℕ) (v : Venue) → All P (meet i j k v)
@@ -83,26 +83,26 @@ module _ (P : Report → Type 0) (others : Others P) where
   abbrev AllTurn : Turn → Type 0
   AllTurn = Told P (λ _. Unit {0})
 
-  all-meetTurn : (i : ℕ) (v : Venue) → AllTurn (meetTurn i v)
-  all-meetTurn i v = meetTurn-by AllTurn i v (λ _. tt) (λ _ _ _. tt) (λ _ _ _. (all-hit i _ _ v, tt)) (λ _ j m _ _. (all_meet i j _ v, tt))
+  all-meet_turn : (i : ℕ) (v : Venue) → AllTurn (meet_turn i v)
+  all-meet_turn i v = meet_turn-by AllTurn i v (λ _. tt) (λ _ _ _. tt) (λ _ _ _. (all-hit i _ _ v, tt)) (λ _ j m _ _. (all_meet i j _ v, tt))
 
   pub all-order : (o : Regular) (v : Venue) → All P (order o v)
-  unfolding order enterRegular
-  all-order o v = all_then _ _ (told-repeat P (λ _. Unit {0}) _ (λ w _. all-meetTurn _ w) _ _ tt) (all-settle _)
+  unfolding order enter_regular
+  all-order o v = all_then _ _ (told-repeat P (λ _. Unit {0}) _ (λ w _. all-meet_turn _ w) _ _ tt) (all-settle _)
 
   pub all-touch : (i : ℕ) (v : Venue) → All P (touch i v)
   all-touch = told-touch P others.removals
 
-  pub all-legging : (i fuel : ℕ) (v : Venue) → All P (repeat fuel (legInTurn i) v)
+  pub all-legging : (i fuel : ℕ) (v : Venue) → All P (repeat fuel (leg_in_turn i) v)
   all-legging i fuel v = told-legging P i fuel v (takes others _)
 
   pub all-cancel : (id : ℕ) (v : Venue) → All P (cancel id v)
-  unfolding cancel cancelRegular cancelComplex
+  unfolding cancel cancel_regular cancel_complex
   all-cancel id v =
       all_then _ settle
-      (if-by (All P) (restsRegular v id)
+      (if-by (All P) (rests_regular v id)
       (λ _. all-report (cancelled _ _) (others.cancels _ _) _)
-      (λ _. all_then _ _ (all-report (cancelled _ _) (others.cancels _ _) _) (all-removeOf _ _ _)))
+      (λ _. all_then _ _ (all-report (cancelled _ _) (others.cancels _ _) _) (all-remove_of _ _ _)))
       (all-settle _)
 
   -- Generation
@@ -151,24 +151,24 @@ quiet-generate : (number i : ℕ) (v : Venue) → Quiet (generate number i v)
 quiet-generate number i v = all-generate NoAnswer no_answer (λ _ _ _ _ _ _. tt) number i v
 
 quiet-perform : (number : ℕ) (m : Message) (v : Venue) → Quiet (perform number m v)
-unfolding perform complex sweep limitedSweep
+unfolding perform complex sweep limited_sweep
 quiet-perform number (Order o) v = all-order NoAnswer no_answer o _
 quiet-perform number (TwoLeg c) v = quiet_then _ _ (quiet_then _ _ (quiet-work _ _) (quiet-settle _)) (quiet-generate number _ _)
 quiet-perform number (Cancel id) v = all-cancel NoAnswer no_answer id v
 quiet-perform number (Away s bid offer) v = quiet-settle _
 quiet-perform number (Status s x) v = quiet-settle _
 quiet-perform number Sweep v =
-    quiet_then _ _ (quiet_then _ _ (all-eachOf NoAnswer no_answer work quiet-work _ v) (quiet-settle _))
-    (all-eachOf NoAnswer no_answer (generate number) (quiet-generate number) _ _)
+    quiet_then _ _ (quiet_then _ _ (all-each_of NoAnswer no_answer work quiet-work _ v) (quiet-settle _))
+    (all-each_of NoAnswer no_answer (generate number) (quiet-generate number) _ _)
 quiet-perform number (Increment s i e) v = quiet-settle _
 quiet-perform number (Percent x e) v = quiet-settle _
 quiet-perform number (LimitedSweep n) v =
-    quiet_then _ _ (quiet_then _ _ (quiet_then _ _ (all-report NoAnswer no_answer (looked _) tt _) (all-eachOf NoAnswer no_answer work quiet-work _ _)) (quiet-settle _))
-    (all-eachOf NoAnswer no_answer (generate number) (quiet-generate number) _ _)
+    quiet_then _ _ (quiet_then _ _ (quiet_then _ _ (all-report NoAnswer no_answer (looked _) tt _) (all-each_of NoAnswer no_answer work quiet-work _ _)) (quiet-settle _))
+    (all-each_of NoAnswer no_answer (generate number) (quiet-generate number) _ _)
 
 pub quiet-accept : (number : ℕ) (m : Message) (v : Venue) → Quiet (accept number m v)
 unfolding accept
-quiet-accept number m v = quiet_then (perform number m v) (λ w. nothing (closeGaps w)) (quiet-perform number m v) (quiet-nothing _)
+quiet-accept number m v = quiet_then (perform number m v) (λ w. nothing (close_gaps w)) (quiet-perform number m v) (quiet-nothing _)
 
 -- Neither answers nor 67 nor 72 -----------------------------------------------------------------
 

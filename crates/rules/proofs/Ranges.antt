@@ -34,8 +34,8 @@ leb-not a b = go (leb a b) refl
     go true e = rw (e, le-ltb b a (leb-true _ _ e))
     go false e = rw (e, lt-ltb b a (leb-false _ _ e))
 
-pub leZ-not : (a b : ℤ) → le_z a b ≡ not (lt_z b a)
-leZ-not (pos a) (pos b) = leb-not a b
-leZ-not (pos a) (negsuc b) = refl
-leZ-not (negsuc a) (pos b) = refl
-leZ-not (negsuc a) (negsuc b) = leb-not b a
+pub le_z-not : (a b : ℤ) → le_z a b ≡ not (lt_z b a)
+le_z-not (pos a) (pos b) = leb-not a b
+le_z-not (pos a) (negsuc b) = refl
+le_z-not (negsuc a) (pos b) = refl
+le_z-not (negsuc a) (negsuc b) = leb-not b a

@@ -7,7 +7,7 @@ use native.Mathlib.Nat.{div-add-mod', div-eq_of_lt-le, mod-lt, mul-mod_left}
 use lib.Dec.{eqb}
 use Rattle.rules.specs.Base.{if◌then◌else◌}
 use Rattle.rules.specs.Words.{buy}
-use Rattle.rules.specs.Prices.{displayedPrice, Rounds, DisplayedRounds}
+use Rattle.rules.specs.Prices.{displayed_price, Rounds, DisplayedRounds}
 
 -- a multiple of i from which x is less than one increment away is what x rounds down to
 down-only : (i x r : ℕ) → 0 < i → r % i ≡ 0 → r ≤ x → x < r + i → r ≡ x / i * i
@@ -35,5 +35,5 @@ module _ (i d p : ℕ) (some : 0 < i) where
   only_if false e r z = let a = z.up e in down-only i (p + (i - 1)) r some z.multiple (omega arith) (omega arith)
 
 pub displayed-rounds : DisplayedRounds
-unfolding displayedPrice
+unfolding displayed_price
 displayed-rounds i d p h = (rounds-if i d p h (eqb d buy) refl, only_if i d p h (eqb d buy) refl)

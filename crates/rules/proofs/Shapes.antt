@@ -11,23 +11,23 @@ use Rattle.rules.specs.declared.Venue.{Venue}
 use Rattle.rules.specs.declared.Message.{Message}
 use Rattle.rules.specs.declared.Message.TheVariants.{Order, TwoLeg, Cancel, Away, Status, Sweep, Increment, Percent, LimitedSweep}
 use Rattle.rules.specs.Base.{held}
-use Rattle.rules.specs.Words.{noRegular, noComplex, withRegular, withComplex, withLegging, withSeries, withEditions, withGenerations, with_last, withReached}
-use Rattle.rules.specs.Settings.{enterEdition}
-use Rattle.rules.specs.Messages.{messageOf}
+use Rattle.rules.specs.Words.{no_regular, no_complex, with_regular, with_complex, with_legging, with_series, with_editions, with_generations, with_last, with_reached}
+use Rattle.rules.specs.Settings.{enter_edition}
+use Rattle.rules.specs.Messages.{message_of}
 use Rattle.rules.specs.Effects.{Effect, nothing, report, ◌⟫◌}
 use Rattle.rules.specs.Removal.{remove}
-use Rattle.rules.specs.Standing.{showAgain}
-use Rattle.rules.specs.Trading.{fillRegular, fillComplex, putRegular, putComplex}
-use Rattle.rules.specs.Order.{order, enterRegular}
-use Rattle.rules.specs.Generation.{counted, placed, makes, make, generateLeg, generate}
-use Rattle.rules.specs.Complex.{work, complex, sweep, limitedSweep}
-use Rattle.rules.specs.Places.{holdsRegular, holdsComplex, closeGaps}
+use Rattle.rules.specs.Standing.{show_again}
+use Rattle.rules.specs.Trading.{fill_regular, fill_complex, put_regular, put_complex}
+use Rattle.rules.specs.Order.{order, enter_regular}
+use Rattle.rules.specs.Generation.{counted, placed, makes, make, generate_leg, generate}
+use Rattle.rules.specs.Complex.{work, complex, sweep, limited_sweep}
+use Rattle.rules.specs.Places.{holds_regular, holds_complex, close_gaps}
 use Rattle.rules.specs.Refusals.{refusal}
-use Rattle.rules.specs.Step.{setAway, setStatus, setFigure, perform, accept, answered, step}
+use Rattle.rules.specs.Step.{set_away, set_status, set_figure, perform, accept, answered, step}
 use Rattle.rules.proofs.Again.{again-fewer}
 use Rattle.rules.proofs.Cases.{if-by}
 use Rattle.rules.proofs.Closing.{length-packed}
-use Rattle.rules.proofs.EffectsLaws.{Lasts, keeps-eachOf, keeps-settle, keeps-matching, keeps-work, keeps-cancel}
+use Rattle.rules.proofs.EffectsLaws.{Lasts, keeps-each_of, keeps-settle, keeps-matching, keeps-work, keeps-cancel}
 use Rattle.rules.proofs.Removing.{length-stayers}
 
 pub record Sized (r c l s e g : ℕ) (v : Venue) : Type 0 where
@@ -40,9 +40,9 @@ pub record Sized (r c l s e g : ℕ) (v : Venue) : Type 0 where
 
 module _ {r c l s e g : ℕ} where
   lasts : Lasts (Sized r c l s e g)
-  unfolding fillRegular fillComplex remove showAgain withRegular withComplex withLegging
+  unfolding fill_regular fill_complex remove show_again with_regular with_complex with_legging
   lasts = record {
-    fillR = λ i k v z. record {
+    fill_r = λ i k v z. record {
       regular = length-set v.regular i _ ∙ z.regular;
       complex = z.complex;
       legging = z.legging;
@@ -50,7 +50,7 @@ module _ {r c l s e g : ℕ} where
       editions = z.editions;
       generations = z.generations;
     };
-    fillC = λ i k v z. record {
+    fill_c = λ i k v z. record {
       regular = z.regular;
       complex = length-set v.complex i _ ∙ z.complex;
       legging = z.legging;
@@ -70,7 +70,7 @@ module _ {r c l s e g : ℕ} where
   }
 
   placed-sized : (n : ℕ) (x : Legging) (v : Venue) → Sized r c l s e g v → Sized r c l s e g (placed n x v)
-  unfolding placed withLegging
+  unfolding placed with_legging
   placed-sized n x v z = record {
     regular = z.regular;
     complex = z.complex;
@@ -81,7 +81,7 @@ module _ {r c l s e g : ℕ} where
   }
 
   counted-sized : (number t : ℕ) (v : Venue) → Sized r c l s e g v → Sized r c l s e g (counted number t v)
-  unfolding counted withGenerations
+  unfolding counted with_generations
   counted-sized number t v z = record {
     regular = z.regular;
     complex = z.complex;
@@ -91,8 +91,8 @@ module _ {r c l s e g : ℕ} where
     generations = length-set v.generations t _ ∙ z.generations;
   }
 
-  leg-sized : (number : ℕ) (x : Complex) (t d : ℕ) (v : Venue) → Sized r c l s e g v → Sized r c l s e g (generateLeg number x t d v).venue
-  unfolding generateLeg make report nothing ◌⟫◌
+  leg-sized : (number : ℕ) (x : Complex) (t d : ℕ) (v : Venue) → Sized r c l s e g v → Sized r c l s e g (generate_leg number x t d v).venue
+  unfolding generate_leg make report nothing ◌⟫◌
   leg-sized number x t d v z = if-by (λ (f : Effect). Sized r c l s e g f.venue) (held x.quantity && makes number v x t d)
       (λ _. counted-sized number t _ (placed-sized _ _ _ (lasts.gone _ v z))) (λ _. z)
 
@@ -100,11 +100,11 @@ module _ {r c l s e g : ℕ} where
   unfolding generate ◌⟫◌
   generate-sized number i v z = leg-sized number _ _ _ _ (leg-sized number _ _ _ v z)
 
-  closed-sized : (v : Venue) → Sized r c l s e g v → Sized r c l s e g (closeGaps v)
-  unfolding closeGaps withRegular withComplex
+  closed-sized : (v : Venue) → Sized r c l s e g v → Sized r c l s e g (close_gaps v)
+  unfolding close_gaps with_regular with_complex
   closed-sized v z = record {
-    regular = length-packed holdsRegular noRegular v.regular ∙ z.regular;
-    complex = length-packed holdsComplex noComplex v.complex ∙ z.complex;
+    regular = length-packed holds_regular no_regular v.regular ∙ z.regular;
+    complex = length-packed holds_complex no_complex v.complex ∙ z.complex;
     legging = z.legging;
     series = z.series;
     editions = z.editions;
@@ -112,8 +112,8 @@ module _ {r c l s e g : ℕ} where
   }
 
   perform-sized : (number : ℕ) (m : Message) (v : Venue) → Sized r c l s e g v → Sized r c l s e g (perform number m v).venue
-  unfolding perform order enterRegular putRegular complex putComplex sweep limitedSweep setAway setStatus setFigure enterEdition withRegular
-      withComplex withSeries withEditions with_last withReached report ◌⟫◌
+  unfolding perform order enter_regular put_regular complex put_complex sweep limited_sweep set_away set_status set_figure enter_edition with_regular
+      with_complex with_series with_editions with_last with_reached report ◌⟫◌
   perform-sized number (Order o) v z =
       keeps-settle lasts _ (keeps-matching lasts _ _ _
       (record { regular = length-set v.regular _ o ∙ z.regular; complex = z.complex; legging = z.legging; series = z.series; editions = z.editions; generations = z.generations }))
@@ -142,7 +142,7 @@ module _ {r c l s e g : ℕ} where
         generations = z.generations;
       })
   perform-sized number Sweep v z =
-      keeps-eachOf (Sized r c l s e g) (generate number) (generate-sized number) _ _ (keeps-settle lasts _ (keeps-eachOf (Sized r c l s e g) work (keeps-work lasts) _ v z))
+      keeps-each_of (Sized r c l s e g) (generate number) (generate-sized number) _ _ (keeps-settle lasts _ (keeps-each_of (Sized r c l s e g) work (keeps-work lasts) _ v z))
   perform-sized number (Increment t i k) v z =
       keeps-settle lasts _ (record {
         regular = z.regular;
@@ -162,12 +162,12 @@ module _ {r c l s e g : ℕ} where
         generations = z.generations;
       })
   perform-sized number (LimitedSweep n) v z =
-      keeps-eachOf (Sized r c l s e g) (generate number) (generate-sized number) _ _
-      (keeps-settle lasts _ (keeps-eachOf (Sized r c l s e g) work (keeps-work lasts) _ _
+      keeps-each_of (Sized r c l s e g) (generate number) (generate-sized number) _ _
+      (keeps-settle lasts _ (keeps-each_of (Sized r c l s e g) work (keeps-work lasts) _ _
       (record { regular = z.regular; complex = z.complex; legging = z.legging; series = z.series; editions = z.editions; generations = z.generations })))
 
   -- every step leaves the arrays of their lengths
   pub step-sized : (v : Venue) (number : ℕ) (bs : List ℕ) → Sized r c l s e g v → Sized r c l s e g (step v number bs).effect.venue
   unfolding step answered accept nothing ◌⟫◌
   step-sized v number bs z =
-      if-by (λ (f : Effect). Sized r c l s e g f.venue) (eqb (refusal v bs) 0) (λ _. closed-sized _ (perform-sized number (messageOf bs) v z)) (λ _. z)
+      if-by (λ (f : Effect). Sized r c l s e g f.venue) (eqb (refusal v bs) 0) (λ _. closed-sized _ (perform-sized number (message_of bs) v z)) (λ _. z)

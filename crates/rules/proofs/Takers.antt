@@ -11,18 +11,18 @@ use Rattle.rules.specs.declared.Legging.{Legging}
 use Rattle.rules.specs.declared.Venue.{Venue}
 use Rattle.rules.specs.declared.Verdict.{Verdict}
 use Rattle.rules.specs.Base.{held}
-use Rattle.rules.specs.Words.{complexAt, withLegging, withRegular}
+use Rattle.rules.specs.Words.{complex_at, with_legging, with_regular}
 use Rattle.rules.specs.Records.{ForAll, Report, crossed, generated, pair, removed, trade}
 use Rattle.rules.specs.Effects.{Effect, Turn, ◌⟫◌, ended, nothing, repeat, report, turned}
-use Rattle.rules.specs.Removal.{remove, removeOf}
-use Rattle.rules.specs.Standing.{showAgain}
-use Rattle.rules.specs.Trading.{fillRegular, pairOff, tradeAtPrice, tradeWith}
-use Rattle.rules.specs.Generation.{generate, generateLeg, make, makes}
-use Rattle.rules.specs.Complex.{anyClosed, cross, crossTurn, eachOf, legIn, legInTurn, legsIn, touch, touches, unitsIn, work}
+use Rattle.rules.specs.Removal.{remove, remove_of}
+use Rattle.rules.specs.Standing.{show_again}
+use Rattle.rules.specs.Trading.{fill_regular, pair_off, trade_at_price, trade_with}
+use Rattle.rules.specs.Generation.{generate, generate_leg, make, makes}
+use Rattle.rules.specs.Complex.{any_closed, cross, cross_turn, each_of, leg_in, leg_in_turn, legs_in, touch, touches, units_in, work}
 use Rattle.rules.proofs.ByPlace.{ByPlace, next, none, removed-by-place}
-use Rattle.rules.proofs.Cases.{crossTurn-by, if-by, repeat-by, at-price-by}
-use Rattle.rules.proofs.Filling.{fill-fewerC}
-use Rattle.rules.proofs.EffectsLaws.{Lasts, cross-from, keeps-crossing, keeps-legIn, keeps-touch}
+use Rattle.rules.proofs.Cases.{cross_turn-by, if-by, repeat-by, at-price-by}
+use Rattle.rules.proofs.Filling.{fill-fewer_c}
+use Rattle.rules.proofs.EffectsLaws.{Lasts, cross-from, keeps-crossing, keeps-leg_in, keeps-touch}
 use Rattle.rules.proofs.Widths.{each_append}
 
 -- P holds of the records of an effect
@@ -59,13 +59,13 @@ module _ (P : Report → Type 0) where
       repeat-by (All P) fuel turn v (λ _. tt) (λ e is. let t = subst (Told I) is (ok v h) in told-then e _ t.0 (told-repeat I turn ok fuel _ t.1))
 
   -- of the orders at some places
-  pub told-eachOf : (I : Venue → Type 0) (f : ℕ → Venue → Effect) (places : List ℕ) →
-      ((i : ℕ) → Memᴰ i places → (v : Venue) → I v → All P (f i v) × I (f i v).venue) → (v : Venue) → I v → All P (eachOf f places v)
-  unfolding eachOf nothing
-  told-eachOf I f [] ok v h = tt
-  told-eachOf I f (i ∷ places) ok v h =
+  pub told-each_of : (I : Venue → Type 0) (f : ℕ → Venue → Effect) (places : List ℕ) →
+      ((i : ℕ) → Memᴰ i places → (v : Venue) → I v → All P (f i v) × I (f i v).venue) → (v : Venue) → I v → All P (each_of f places v)
+  unfolding each_of nothing
+  told-each_of I f [] ok v h = tt
+  told-each_of I f (i ∷ places) ok v h =
       let t = ok i (Memᴰ.head refl) v h in
-      told-then (f i v) _ t.0 (told-eachOf I f places (λ j m. ok j (Memᴰ.tail m)) _ t.1)
+      told-then (f i v) _ t.0 (told-each_of I f places (λ j m. ok j (Memᴰ.tail m)) _ t.1)
 
   -- Removal
   module _ (gone : (id s d : ℕ) (c : Cause) → P (removed id s d c)) where
@@ -82,75 +82,75 @@ module _ (P : Report → Type 0) where
       unfolding make report
       told-make number s d v = told-then _ _ (told-remove _ v) (made _ _ _ _ _, tt)
 
-      told-leg : (number s d : ℕ) (v : Venue) → All P (generateLeg number c s d v)
-      unfolding generateLeg nothing
+      told-leg : (number s d : ℕ) (v : Venue) → All P (generate_leg number c s d v)
+      unfolding generate_leg nothing
       told-leg number s d v = if-by (All P) (held c.quantity && makes number v c s d) (λ _. told-make number s d v) (λ _. tt)
 
-    pub told-generate : (number i : ℕ) (v : Venue) → ((s d p shown k : ℕ) → P (generated (complexAt v i).id s d p shown k)) → All P (generate number i v)
+    pub told-generate : (number i : ℕ) (v : Venue) → ((s d p shown k : ℕ) → P (generated (complex_at v i).id s d p shown k)) → All P (generate number i v)
     unfolding generate
-    told-generate number i v made = told-then _ _ (told-leg (complexAt v i) made number _ _ v) (told-leg (complexAt v i) made number _ _ _)
+    told-generate number i v made = told-then _ _ (told-leg (complex_at v i) made number _ _ v) (told-leg (complex_at v i) made number _ _ _)
 
   -- One taker
   module _ (taker : ℕ) (by : Takes P taker) where
-    pub told-take : (s d p fuel k : ℕ) (v : Venue) → All P (tradeAtPrice fuel taker s d p k v)
-    unfolding nothing tradeWith report
-    told-take s d p zero k v = unfold tradeAtPrice in tt
+    pub told-take : (s d p fuel k : ℕ) (v : Venue) → All P (trade_at_price fuel taker s d p k v)
+    unfolding nothing trade_with report
+    told-take s d p zero k v = unfold trade_at_price in tt
     told-take s d p (suc fuel) k v =
         at-price-by (All P) fuel taker s d p k v (λ _. tt) (λ _ _. tt) (λ _ i o _. told-then _ _ (by.trades _ d _ _ _, tt) (told-take s d p fuel _ _))
 
-    pub told-pair : (i : ℕ) (n : ℤ) (k : ℕ) (v : Venue) → All P (pairOff i taker n k v)
-    unfolding pairOff report removeOf
+    pub told-pair : (i : ℕ) (n : ℤ) (k : ℕ) (v : Venue) → All P (pair_off i taker n k v)
+    unfolding pair_off report remove_of
     told-pair i n k v = told-then _ _ (by.pairs n k, tt) (told-remove by.removals _ _)
 
   -- The complex order at place i: fills, removals and showing again leave its id
   module _ (Q : ℕ → Type 0) (i : ℕ) where
     abbrev Own : Venue → Type 0
-    Own v = Q (complexAt v i).id
+    Own v = Q (complex_at v i).id
 
     own-lasts : Lasts Own
-    unfolding fillRegular remove showAgain withRegular withLegging complexAt
+    unfolding fill_regular remove show_again with_regular with_legging complex_at
     own-lasts = record {
-      fillR = λ j k v h. h;
-      fillC = λ j k v h. subst Q (sym ((fill-fewerC j k v).lesser i).id) h;
+      fill_r = λ j k v h. h;
+      fill_c = λ j k v h. subst Q (sym ((fill-fewer_c j k v).lesser i).id) h;
       gone = λ f v h. h;
       again = λ v h. h;
     }
 
   pub told-touch : (gone : (id s d : ℕ) (c : Cause) → P (removed id s d c)) (i : ℕ) (v : Venue) → All P (touch i v)
   unfolding touch nothing
-  told-touch gone i v = if-by (All P) (touches v (complexAt v i)) (λ _. told-remove gone _ v) (λ _. tt)
+  told-touch gone i v = if-by (All P) (touches v (complex_at v i)) (λ _. told-remove gone _ v) (λ _. tt)
 
-  told-legIn : (i a b k : ℕ) (v : Venue) → Takes P (complexAt v i).id → All P (legIn i a b k v)
-  unfolding legIn
-  told-legIn i a b k v by = told-then _ _ (told-then _ _ (told-take _ by _ _ _ _ _ v) (told-take _ by _ _ _ _ _ _)) (told-pair _ by i _ k _)
+  told-leg_in : (i a b k : ℕ) (v : Venue) → Takes P (complex_at v i).id → All P (leg_in i a b k v)
+  unfolding leg_in
+  told-leg_in i a b k v by = told-then _ _ (told-then _ _ (told-take _ by _ _ _ _ _ v) (told-take _ by _ _ _ _ _ _)) (told-pair _ by i _ k _)
 
-  pub told-legging : (i fuel : ℕ) (v : Venue) → Takes P (complexAt v i).id → All P (repeat fuel (legInTurn i) v)
-  told-legging i = told-repeat (Own (Takes P) i) (legInTurn i) turn
+  pub told-legging : (i fuel : ℕ) (v : Venue) → Takes P (complex_at v i).id → All P (repeat fuel (leg_in_turn i) v)
+  told-legging i = told-repeat (Own (Takes P) i) (leg_in_turn i) turn
     where
-      turn : (v : Venue) → Takes P (complexAt v i).id → Told (Own (Takes P) i) (legInTurn i v)
-      turn v by = unfold legInTurn in (if-by (Told (Own (Takes P) i)) (legsIn v (complexAt v i) _ _ && held (unitsIn v (complexAt v i)))
-          (λ _. (told-legIn i _ _ _ v by, keeps-legIn (own-lasts (Takes P) i) i _ _ _ v by)) (λ _. tt))
+      turn : (v : Venue) → Takes P (complex_at v i).id → Told (Own (Takes P) i) (leg_in_turn i v)
+      turn v by = unfold leg_in_turn in (if-by (Told (Own (Takes P) i)) (legs_in v (complex_at v i) _ _ && held (units_in v (complex_at v i)))
+          (λ _. (told-leg_in i _ _ _ v by, keeps-leg_in (own-lasts (Takes P) i) i _ _ _ v by)) (λ _. tt))
 
-  told-cross : (i j k : ℕ) (v : Venue) → Works P (complexAt v i).id → All P (cross i j k v)
-  unfolding cross report removeOf
+  told-cross : (i j k : ℕ) (v : Venue) → Works P (complex_at v i).id → All P (cross i j k v)
+  unfolding cross report remove_of
   told-cross i j k v by =
       told-then _ _ (told-then _ _ (by.crosses _ _ k, tt) (told-remove by.takes.removals _ _)) (told-remove by.takes.removals _ _)
 
-  told-crossing : (i fuel : ℕ) (v : Venue) → Works P (complexAt v i).id → All P (repeat fuel (crossTurn i) v)
-  told-crossing i = told-repeat (Own (Works P) i) (crossTurn i) turn
+  told-crossing : (i fuel : ℕ) (v : Venue) → Works P (complex_at v i).id → All P (repeat fuel (cross_turn i) v)
+  told-crossing i = told-repeat (Own (Works P) i) (cross_turn i) turn
     where
-      turn : (v : Venue) → Works P (complexAt v i).id → Told (Own (Works P) i) (crossTurn i v)
-      turn v by = crossTurn-by (Told (Own (Works P) i)) i v (λ _. tt) (λ _ _. tt)
-          (λ _ j m _. (told-cross i j _ v by, cross-from (own-lasts (Works P) i) i j _ v ((own-lasts (Works P) i).fillC i _ v by)))
+      turn : (v : Venue) → Works P (complex_at v i).id → Told (Own (Works P) i) (cross_turn i v)
+      turn v by = cross_turn-by (Told (Own (Works P) i)) i v (λ _. tt) (λ _ _. tt)
+          (λ _ j m _. (told-cross i j _ v by, cross-from (own-lasts (Works P) i) i j _ v ((own-lasts (Works P) i).fill_c i _ v by)))
 
   -- after its crosses and its touch it is still the same order
-  still-own : (i n : ℕ) (v : Venue) → Works P (complexAt v i).id → Works P (complexAt (repeat n (crossTurn i) v ⟫ touch i).venue i).id
+  still-own : (i n : ℕ) (v : Venue) → Works P (complex_at v i).id → Works P (complex_at (repeat n (cross_turn i) v ⟫ touch i).venue i).id
   unfolding ◌⟫◌
   still-own i n v by = let own = own-lasts (Works P) i in keeps-touch own i _ (keeps-crossing own i n v by)
 
-  pub told-work : (i : ℕ) (v : Venue) → Works P (complexAt v i).id → All P (work i v)
+  pub told-work : (i : ℕ) (v : Venue) → Works P (complex_at v i).id → All P (work i v)
   unfolding work nothing
   told-work i v by =
-      let n = (complexAt v i).quantity in
-      if-by (All P) (anyClosed v (complexAt v i)) (λ _. tt)
+      let n = (complex_at v i).quantity in
+      if-by (All P) (any_closed v (complex_at v i)) (λ _. tt)
       (λ _. told-then _ _ (told-then _ _ (told-crossing i n v by) (told-touch by.takes.removals i _)) (told-legging i n _ (still-own i n v by).takes))

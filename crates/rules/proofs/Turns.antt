@@ -9,13 +9,13 @@ use lib.ListN.{get_or, length, take}
 use Rattle.rules.specs.declared.Complex.{Complex}
 use Rattle.rules.specs.declared.Venue.{Venue}
 use Rattle.rules.specs.Base.{if◌then◌else◌, held}
-use Rattle.rules.specs.Words.{noComplex}
-use Rattle.rules.specs.Complex.{goingRound, places_of, restingPlaces}
+use Rattle.rules.specs.Words.{no_complex}
+use Rattle.rules.specs.Complex.{going_round, places_of, resting_places}
 use Rattle.rules.proofs.Summing.{sum, sum-firsts, sum-join}
 
 module _ (rate : Complex → ℕ) where
   -- f is the rate of the orders at places n and on: each place has one turn, before or after the round's end
-  parted : (p : Complex → Bool) (f : ℕ → ℕ) (n : ℕ) (cs now : List Complex) → length now ≡ length cs → ((i : ℕ) → f (n + i) ≡ rate (get_or now i noComplex)) →
+  parted : (p : Complex → Bool) (f : ℕ → ℕ) (n : ℕ) (cs now : List Complex) → length now ≡ length cs → ((i : ℕ) → f (n + i) ≡ rate (get_or now i no_complex)) →
       sum f (places_of p n cs) + sum f (places_of (λ c. not (p c)) n cs) ≤ sum rate now
   unfolding places_of sum
   parted p f n [] now e h = omega arith
@@ -37,21 +37,21 @@ module _ (rate : Complex → ℕ) where
       go false t own rest = omega arith
 
   -- the orders that a sweep of v goes through, as they are now: together no more than all
-  pub sweep-once : (v : Venue) (now : List Complex) → length now ≡ length v.complex → sum (λ i. rate (get_or now i noComplex)) (restingPlaces v) ≤ sum rate now
-  unfolding restingPlaces
+  pub sweep-once : (v : Venue) (now : List Complex) → length now ≡ length v.complex → sum (λ i. rate (get_or now i no_complex)) (resting_places v) ≤ sum rate now
+  unfolding resting_places
   sweep-once v now e =
-      let f : ℕ → ℕ = λ i. rate (get_or now i noComplex) in
+      let f : ℕ → ℕ = λ i. rate (get_or now i no_complex) in
       let z = parted (λ _. true) f 0 v.complex now e (λ i. ap f (omega arith)) in
       omega arith
 
   -- and those that a limited one looks at
   pub round-once : (n : ℕ) (v : Venue) (now : List Complex) → length now ≡ length v.complex →
-      sum (λ i. rate (get_or now i noComplex)) (take n (goingRound v)) ≤ sum rate now
-  unfolding goingRound
+      sum (λ i. rate (get_or now i no_complex)) (take n (going_round v)) ≤ sum rate now
+  unfolding going_round
   round-once n v now e =
-      let f : ℕ → ℕ = λ i. rate (get_or now i noComplex) in
+      let f : ℕ → ℕ = λ i. rate (get_or now i no_complex) in
       let later : Complex → Bool = λ c. ltb v.reached c.id in
-      let x = sum-firsts f n (goingRound v) in
+      let x = sum-firsts f n (going_round v) in
       let y = sum-join f (places_of later 0 v.complex) (places_of (λ c. not (later c)) 0 v.complex) in
       let z = parted later f 0 v.complex now e (λ i. ap f (omega arith)) in
       omega arith

@@ -10,14 +10,14 @@ use Rattle.rules.specs.declared.Cause.TheVariants.{Worse, Unpaired, OutOfBand, N
 use Rattle.rules.specs.declared.Verdict.{Verdict}
 use Rattle.rules.specs.declared.Verdict.TheVariants.{Stands, Fails}
 use Rattle.rules.specs.Base.{if◌then◌else◌}
-use Rattle.rules.specs.Prices.{inBand}
-use Rattle.rules.specs.Standing.{bothOpen, displayedNoWorse, pairs, verdictOf}
+use Rattle.rules.specs.Prices.{in_band}
+use Rattle.rules.specs.Standing.{both_open, displayed_no_worse, pairs, verdict_of}
 
 pub record Passes (v : Venue) (c : Complex) (s d : ℕ) (l : Legging) : Type 0 where
-  pub displayed : displayedNoWorse v s d l.price ≡ true
-  pub band : inBand v c c.limit ≡ true
+  pub displayed : displayed_no_worse v s d l.price ≡ true
+  pub band : in_band v c c.limit ≡ true
   pub pair : pairs v c s d l.price l.quantity ≡ true
-  pub opens : bothOpen v c ≡ true
+  pub opens : both_open v c ≡ true
 
 abbrev pub ladder : (a b c d : Bool) → Verdict
 ladder a b c d =
@@ -39,12 +39,12 @@ all4 true true false d h = fails-never h
 all4 true true true false h = fails-never h
 all4 true true true true h = record { p1 = refl; p2 = refl; p3 = refl; p4 = refl }
 
-pub passed : {v : Venue} {c : Complex} {s d : ℕ} {l : Legging} → verdictOf v c s d l ≡ Stands → Passes v c s d l
-unfolding verdictOf
+pub passed : {v : Venue} {c : Complex} {s d : ℕ} {l : Legging} → verdict_of v c s d l ≡ Stands → Passes v c s d l
+unfolding verdict_of
 passed h =
     let a = all4 _ _ _ _ h in
     record { displayed = a.p1; band = a.p2; pair = a.p3; opens = a.p4 }
 
-pub passing : {v : Venue} {c : Complex} {s d : ℕ} {l : Legging} → Passes v c s d l → verdictOf v c s d l ≡ Stands
-unfolding verdictOf
+pub passing : {v : Venue} {c : Complex} {s d : ℕ} {l : Legging} → Passes v c s d l → verdict_of v c s d l ≡ Stands
+unfolding verdict_of
 passing p = rw (p.displayed, p.band, p.pair, p.opens)

@@ -17,24 +17,24 @@ use Rattle.rules.specs.declared.Message.TheVariants.{Away, Increment, Percent, S
 use Rattle.rules.specs.declared.Regular.{Regular}
 use Rattle.rules.specs.declared.Venue.{Venue}
 use Rattle.rules.specs.Base.{held, if◌then◌else◌}
-use Rattle.rules.specs.Words.{complexAt, isAway, isClass, isId, isLimit, isPrice, isQuantity, isRatio, isSeries, isSide, isStatus, noComplex}
-use Rattle.rules.specs.Words.{noEdition, noLegging, noRegular, notListed, oneToOne, regularAt, statusOf, withComplex, withEditions}
-use Rattle.rules.specs.Words.{withGenerations, with_last, withReached, withLegging, withRegular, withSeries, within}
-use Rattle.rules.specs.Settings.{enterEdition, freeEdition, isIncrement, percentage}
+use Rattle.rules.specs.Words.{complex_at, is_away, is_class, is_id, is_limit, is_price, is_quantity, is_ratio, is_series, is_side, is_status, no_complex}
+use Rattle.rules.specs.Words.{no_edition, no_legging, no_regular, not_listed, one_to_one, regular_at, status_of, with_complex, with_editions}
+use Rattle.rules.specs.Words.{with_generations, with_last, with_reached, with_legging, with_regular, with_series, within}
+use Rattle.rules.specs.Settings.{enter_edition, free_edition, is_increment, percentage}
 use Rattle.rules.specs.Records.{ForAll, Report, FourBytes}
-use Rattle.rules.specs.Standing.{showAgain, showsAgain}
-use Rattle.rules.specs.Trading.{fillComplex, fillRegular, lessComplex, lessRegular}
+use Rattle.rules.specs.Standing.{show_again, shows_again}
+use Rattle.rules.specs.Trading.{fill_complex, fill_regular, less_complex, less_regular}
 use Rattle.rules.specs.Generation.{counted, placed}
-use Rattle.rules.specs.Places.{blankLegging, closeGaps}
-use Rattle.rules.specs.Refusals.{complexInRange, regularInRange, twoLegInRange}
-use Rattle.rules.specs.Step.{setAway, setFigure, setStatus}
-use Rattle.rules.specs.Sound.{figureInRange, listedInRange}
+use Rattle.rules.specs.Places.{blank_legging, close_gaps}
+use Rattle.rules.specs.Refusals.{complex_in_range, regular_in_range, two_leg_in_range}
+use Rattle.rules.specs.Step.{set_away, set_figure, set_status}
+use Rattle.rules.specs.Sound.{figure_in_range, listed_in_range}
 use Rattle.rules.proofs.Again.{again-at}
 use Rattle.rules.proofs.Editions.{Dated}
 use Rattle.rules.proofs.Filling.{cx, lg, reg}
-use Rattle.rules.proofs.Gaps.{was, wasC}
+use Rattle.rules.proofs.Gaps.{was, was_c}
 use Rattle.rules.proofs.Integers.{le_out, minus, neg-minus, neg-plus, plus}
-use Rattle.rules.proofs.RefusalsLaws.{wellFormed}
+use Rattle.rules.proofs.RefusalsLaws.{well_formed}
 use Rattle.rules.proofs.Tests.{and_in, and_l, and_r, held-pos, pos-held}
 
 -- Records -------------------------------------------------------------------------------------
@@ -51,7 +51,7 @@ pub record RegFits (o : Regular) : Type 0 where
   pub side : o.side < 2
   pub price : o.price ≤ 100000
   pub quantity : o.quantity ≤ 10000
-  pub ok : held o.quantity ≡ true → regularInRange o ≡ true
+  pub ok : held o.quantity ≡ true → regular_in_range o ≡ true
 
 pub record CxFits (c : Complex) : Type 0 where
   pub id : FourBytes c.id
@@ -64,26 +64,26 @@ pub record CxFits (c : Complex) : Type 0 where
   pub quantity : c.quantity ≤ 10000
   pub ratio1 : c.ratio1 ≤ 3
   pub ratio2 : c.ratio2 ≤ 3
-  pub ok : held c.quantity ≡ true → complexInRange c ≡ true
+  pub ok : held c.quantity ≡ true → complex_in_range c ≡ true
 
 pub record LgFits (l : Legging) : Type 0 where
   pub parent : FourBytes l.parent
   pub price : l.price ≤ 100000
   pub quantity : l.quantity ≤ 10000
-  pub ok : held l.quantity ≡ true → (isId l.parent && isPrice l.price && isQuantity l.quantity) ≡ true
-  pub zero : held l.quantity ≡ false → blankLegging l ≡ true
+  pub ok : held l.quantity ≡ true → (is_id l.parent && is_price l.price && is_quantity l.quantity) ≡ true
+  pub zero : held l.quantity ≡ false → blank_legging l ≡ true
 
 pub record Ranged (v : Venue) : Type 0 where
   pub regular : (i : ℕ) → RegFits (reg v i)
   pub complex : (i : ℕ) → CxFits (cx v i)
   pub legging : (i : ℕ) → LgFits (lg v i)
-  pub listed : (i : ℕ) → listedInRange (get_or v.series i notListed) ≡ true
+  pub listed : (i : ℕ) → listed_in_range (get_or v.series i not_listed) ≡ true
   pub last : v.last ≤ 4294967295
   pub len : length v.legging ≡ 16
   pub eight : length v.series ≡ 8
   pub dated : Dated v
 
-pub no-cx : CxFits noComplex
+pub no-cx : CxFits no_complex
 unfolding plus minus
 no-cx = record {
   id = omega arith;
@@ -99,8 +99,8 @@ no-cx = record {
   ok = λ h. absurd (false≢true h);
 }
 
-pub no-lg : LgFits noLegging
-no-lg = record { parent = omega arith; price = omega arith; quantity = omega arith; ok = λ h. absurd (false≢true h); zero = λ h. unfold blankLegging in refl }
+pub no-lg : LgFits no_legging
+no-lg = record { parent = omega arith; price = omega arith; quantity = omega arith; ok = λ h. absurd (false≢true h); zero = λ h. unfold blank_legging in refl }
 
 -- One place written ---------------------------------------------------------------------------
 
@@ -112,8 +112,8 @@ set-each P d (y ∷ l) (suc i) x h a zero = a 0
 set-each P d (y ∷ l) (suc i) x h a (suc j) = set-each P d l i x h (λ n. a (suc n)) j
 
 -- an order with less open, some of it still
-quantity-less : (q k : ℕ) → isQuantity q ≡ true → held (q - k) ≡ true → isQuantity (q - k) ≡ true
-unfolding isQuantity within
+quantity-less : (q k : ℕ) → is_quantity q ≡ true → held (q - k) ≡ true → is_quantity (q - k) ≡ true
+unfolding is_quantity within
 quantity-less q k h t =
     let a = held-pos (q - k) t in
     let b = leb-true q 10000 (and_r (leb 1 q) _ h) in
@@ -129,8 +129,8 @@ display-less q k x h t =
 still : (q k : ℕ) → held (q - k) ≡ true → held q ≡ true
 still q k t = let a = held-pos (q - k) t in pos-held q (omega arith)
 
-less-fits : (k : ℕ) (o : Regular) → RegFits o → RegFits (lessRegular k o)
-unfolding lessRegular regularInRange
+less-fits : (k : ℕ) (o : Regular) → RegFits o → RegFits (less_regular k o)
+unfolding less_regular regular_in_range
 less-fits k o f = record {
   id = f.id;
   series = f.series;
@@ -139,22 +139,22 @@ less-fits k o f = record {
   quantity = (let z = f.quantity in omega arith);
   ok = λ t.
       (let z = f.ok (still o.quantity k t) in
-      let a : isId o.id ≡ true = search (and_l, and_r, z) depth 8 in
-      let b : isSeries o.series ≡ true = search (and_l, and_r, z) depth 8 in
-      let c : isSide o.side ≡ true = search (and_l, and_r, z) depth 8 in
-      let d : isPrice o.price ≡ true = search (and_l, and_r, z) depth 8 in
-      let e : isQuantity o.quantity ≡ true = search (and_l, and_r, z) depth 8 in
+      let a : is_id o.id ≡ true = search (and_l, and_r, z) depth 8 in
+      let b : is_series o.series ≡ true = search (and_l, and_r, z) depth 8 in
+      let c : is_side o.side ≡ true = search (and_l, and_r, z) depth 8 in
+      let d : is_price o.price ≡ true = search (and_l, and_r, z) depth 8 in
+      let e : is_quantity o.quantity ≡ true = search (and_l, and_r, z) depth 8 in
       let x : within 1 o.quantity o.display ≡ true = search (and_l, and_r, z) depth 8 in
       rw (a, b, c, d, quantity-less o.quantity k e t, display-less o.quantity k o.display x t));
 }
 
-again-fits : (o : Regular) → RegFits o → RegFits (showsAgain o)
-unfolding showsAgain regularInRange
+again-fits : (o : Regular) → RegFits o → RegFits (shows_again o)
+unfolding shows_again regular_in_range
 again-fits o f = record { id = f.id; series = f.series; side = f.side; price = f.price; quantity = f.quantity; ok = f.ok }
 
-lessC-fits : (k : ℕ) (c : Complex) → CxFits c → CxFits (lessComplex k c)
-unfolding lessComplex complexInRange twoLegInRange oneToOne
-lessC-fits k c f = record {
+less_c-fits : (k : ℕ) (c : Complex) → CxFits c → CxFits (less_complex k c)
+unfolding less_complex complex_in_range two_leg_in_range one_to_one
+less_c-fits k c f = record {
   id = f.id;
   series1 = f.series1;
   side1 = f.side1;
@@ -165,14 +165,14 @@ lessC-fits k c f = record {
   quantity = (let z = f.quantity in omega arith);
   ratio1 = f.ratio1;
   ratio2 = f.ratio2;
-  ok = λ t. middle front _ _ (isRatio c.ratio1) (isRatio c.ratio2) _ (f.ok (still c.quantity k t)) (λ e. quantity-less c.quantity k e t);
+  ok = λ t. middle front _ _ (is_ratio c.ratio1) (is_ratio c.ratio2) _ (f.ok (still c.quantity k t)) (λ e. quantity-less c.quantity k e t);
 }
   where
     front : Bool
     front =
-        isId c.id && isSeries c.series1 && isSide c.side1 && isSeries c.series2 && isSide c.side2
-        && not (eqb c.series1 c.series2) && isClass c.class
-        && isLimit (if eqb c.ratio1 1 && eqb c.ratio2 1 then 200000 else 600000) c.limit
+        is_id c.id && is_series c.series1 && is_side c.side1 && is_series c.series2 && is_side c.side2
+        && not (eqb c.series1 c.series2) && is_class c.class
+        && is_limit (if eqb c.ratio1 1 && eqb c.ratio2 1 then 200000 else 600000) c.limit
 
     middle : (a b b' x y z : Bool) → (a && b && x && y && z) ≡ true → (b ≡ true → b' ≡ true) → (a && b' && x && y && z) ≡ true
     middle true true b' true true true h k = rw (k refl)
@@ -184,20 +184,20 @@ lessC-fits k c f = record {
 
 -- one part of the venue replaced
 module _ {v : Venue} (r : Ranged v) where
-  with-regular : (l : List Regular) → ((i : ℕ) → RegFits (get_or l i noRegular)) → Ranged (withRegular v l)
-  unfolding withRegular
+  with-regular : (l : List Regular) → ((i : ℕ) → RegFits (get_or l i no_regular)) → Ranged (with_regular v l)
+  unfolding with_regular
   with-regular l h = record { regular = h; complex = r.complex; legging = r.legging; listed = r.listed; last = r.last; len = r.len; eight = r.eight; dated = r.dated }
 
-  with-complex : (l : List Complex) → ((i : ℕ) → CxFits (get_or l i noComplex)) → Ranged (withComplex v l)
-  unfolding withComplex
+  with-complex : (l : List Complex) → ((i : ℕ) → CxFits (get_or l i no_complex)) → Ranged (with_complex v l)
+  unfolding with_complex
   with-complex l h = record { regular = r.regular; complex = h; legging = r.legging; listed = r.listed; last = r.last; len = r.len; eight = r.eight; dated = r.dated }
 
-  pub with-legging : (l : List Legging) → ((i : ℕ) → LgFits (get_or l i noLegging)) → length l ≡ length v.legging → Ranged (withLegging v l)
-  unfolding withLegging
+  pub with-legging : (l : List Legging) → ((i : ℕ) → LgFits (get_or l i no_legging)) → length l ≡ length v.legging → Ranged (with_legging v l)
+  unfolding with_legging
   with-legging l h e = record { regular = r.regular; complex = r.complex; legging = h; listed = r.listed; last = r.last; len = e ∙ r.len; eight = r.eight; dated = r.dated }
 
-  with-series : (l : List Listed) → ((i : ℕ) → listedInRange (get_or l i notListed) ≡ true) → length l ≡ length v.series → Ranged (withSeries v l)
-  unfolding withSeries
+  with-series : (l : List Listed) → ((i : ℕ) → listed_in_range (get_or l i not_listed) ≡ true) → length l ≡ length v.series → Ranged (with_series v l)
+  unfolding with_series
   with-series l h e = record { regular = r.regular; complex = r.complex; legging = r.legging; listed = h; last = r.last; len = r.len; eight = e ∙ r.eight; dated = r.dated }
 
 pub last-ranged : (n : ℕ) (v : Venue) → FourBytes n → Ranged v → Ranged (with_last v n)
@@ -205,62 +205,62 @@ unfolding with_last
 last-ranged n v h r = record { regular = r.regular; complex = r.complex; legging = r.legging; listed = r.listed; last = omega arith; len = r.len; eight = r.eight; dated = r.dated }
 
 -- an order put, or with less open
-pub put-ranged : (i : ℕ) (o : Regular) (v : Venue) → RegFits o → Ranged v → Ranged (withRegular v (set v.regular i o))
-put-ranged i o v f r = with-regular r _ (set-each RegFits noRegular v.regular i o f r.regular)
+pub put-ranged : (i : ℕ) (o : Regular) (v : Venue) → RegFits o → Ranged v → Ranged (with_regular v (set v.regular i o))
+put-ranged i o v f r = with-regular r _ (set-each RegFits no_regular v.regular i o f r.regular)
 
-pub putC-ranged : (i : ℕ) (c : Complex) (v : Venue) → CxFits c → Ranged v → Ranged (withComplex v (set v.complex i c))
-putC-ranged i c v f r = with-complex r _ (set-each CxFits noComplex v.complex i c f r.complex)
+pub put_c-ranged : (i : ℕ) (c : Complex) (v : Venue) → CxFits c → Ranged v → Ranged (with_complex v (set v.complex i c))
+put_c-ranged i c v f r = with-complex r _ (set-each CxFits no_complex v.complex i c f r.complex)
 
-pub fill-ranged : (i k : ℕ) (v : Venue) → Ranged v → Ranged (fillRegular i k v)
-unfolding fillRegular regularAt
+pub fill-ranged : (i k : ℕ) (v : Venue) → Ranged v → Ranged (fill_regular i k v)
+unfolding fill_regular regular_at
 fill-ranged i k v r = put-ranged i _ v (less-fits k (reg v i) (r.regular i)) r
 
-pub again-ranged : (v : Venue) → Ranged v → Ranged (showAgain v)
-unfolding showAgain
-again-ranged v r = with-regular r _ (λ i. unfold withRegular in (subst RegFits (sym (again-at v i)) (again-fits (reg v i) (r.regular i))))
+pub again-ranged : (v : Venue) → Ranged v → Ranged (show_again v)
+unfolding show_again
+again-ranged v r = with-regular r _ (λ i. unfold with_regular in (subst RegFits (sym (again-at v i)) (again-fits (reg v i) (r.regular i))))
 
-pub fillC-ranged : (i k : ℕ) (v : Venue) → Ranged v → Ranged (fillComplex i k v)
-unfolding fillComplex complexAt
-fillC-ranged i k v r = putC-ranged i _ v (lessC-fits k (cx v i) (r.complex i)) r
+pub fill_c-ranged : (i k : ℕ) (v : Venue) → Ranged v → Ranged (fill_complex i k v)
+unfolding fill_complex complex_at
+fill_c-ranged i k v r = put_c-ranged i _ v (less_c-fits k (cx v i) (r.complex i)) r
 
 pub placed-ranged : (n : ℕ) (l : Legging) (v : Venue) → LgFits l → Ranged v → Ranged (placed n l v)
 unfolding placed
-placed-ranged n l v f r = with-legging r _ (set-each LgFits noLegging v.legging n l f r.legging) (length-set v.legging n l)
+placed-ranged n l v f r = with-legging r _ (set-each LgFits no_legging v.legging n l f r.legging) (length-set v.legging n l)
 
 -- the ceiling's count, and the id that a limited sweep reached, are in no place
 pub counted-ranged : (number s : ℕ) (v : Venue) → Ranged v → Ranged (counted number s v)
-unfolding counted withGenerations
+unfolding counted with_generations
 counted-ranged number s v r = record { regular = r.regular; complex = r.complex; legging = r.legging; listed = r.listed; last = r.last; len = r.len; eight = r.eight; dated = r.dated }
 
-pub reached-ranged : (x : ℕ) (v : Venue) → Ranged v → Ranged (withReached v x)
-unfolding withReached
+pub reached-ranged : (x : ℕ) (v : Venue) → Ranged v → Ranged (with_reached v x)
+unfolding with_reached
 reached-ranged x v r = record { regular = r.regular; complex = r.complex; legging = r.legging; listed = r.listed; last = r.last; len = r.len; eight = r.eight; dated = r.dated }
 
 -- one series written
-series-ranged : (s : ℕ) (x : Listed) (v : Venue) → listedInRange x ≡ true → Ranged v → Ranged (withSeries v (set v.series s x))
-series-ranged s x v h r = with-series r _ (set-each (λ y. listedInRange y ≡ true) notListed v.series s x h r.listed) (length-set v.series s x)
+series-ranged : (s : ℕ) (x : Listed) (v : Venue) → listed_in_range x ≡ true → Ranged v → Ranged (with_series v (set v.series s x))
+series-ranged s x v h r = with-series r _ (set-each (λ y. listed_in_range y ≡ true) not_listed v.series s x h r.listed) (length-set v.series s x)
 
-pub away-ranged : (s b o : ℕ) (v : Venue) → wellFormed (Away s b o) ≡ true → Ranged v → Ranged (setAway s b o v)
-unfolding setAway wellFormed statusOf
+pub away-ranged : (s b o : ℕ) (v : Venue) → well_formed (Away s b o) ≡ true → Ranged v → Ranged (set_away s b o v)
+unfolding set_away well_formed status_of
 away-ranged s b o v z r =
-    series-ranged s _ v (unfold listedInRange in (let y = r.listed s in
-    let a : isStatus (get_or v.series s notListed).status ≡ true = search (and_l, and_r, y) depth 6 in
-    let p : isAway b ≡ true = search (and_l, and_r, z) depth 6 in
-    let q : isAway o ≡ true = search (and_l, and_r, z) depth 6 in
+    series-ranged s _ v (unfold listed_in_range in (let y = r.listed s in
+    let a : is_status (get_or v.series s not_listed).status ≡ true = search (and_l, and_r, y) depth 6 in
+    let p : is_away b ≡ true = search (and_l, and_r, z) depth 6 in
+    let q : is_away o ≡ true = search (and_l, and_r, z) depth 6 in
     rw (a, p, q))) r
 
-pub status-ranged : (s x : ℕ) (v : Venue) → wellFormed (Status s x) ≡ true → Ranged v → Ranged (setStatus s x v)
-unfolding setStatus wellFormed
+pub status-ranged : (s x : ℕ) (v : Venue) → well_formed (Status s x) ≡ true → Ranged v → Ranged (set_status s x v)
+unfolding set_status well_formed
 status-ranged s x v z r =
-    series-ranged s _ v (unfold listedInRange in (let y = r.listed s in
-    let a : isStatus x ≡ true = search (and_l, and_r, z) depth 6 in
-    let p : isAway (get_or v.series s notListed).bid ≡ true = search (and_l, and_r, y) depth 6 in
-    let q : isAway (get_or v.series s notListed).offer ≡ true = search (and_l, and_r, y) depth 6 in
+    series-ranged s _ v (unfold listed_in_range in (let y = r.listed s in
+    let a : is_status x ≡ true = search (and_l, and_r, z) depth 6 in
+    let p : is_away (get_or v.series s not_listed).bid ≡ true = search (and_l, and_r, y) depth 6 in
+    let q : is_away (get_or v.series s not_listed).offer ≡ true = search (and_l, and_r, y) depth 6 in
     rw (a, p, q))) r
 
 -- an edition entered: of a series' increment, or of the percentage
-pub figure-ranged : (number f x e : ℕ) (v : Venue) → figureInRange (record { edition = e; message = number; figure = f; value = x }) ≡ true → Ranged v → Ranged (setFigure number f x e v)
-unfolding setFigure enterEdition withEditions
+pub figure-ranged : (number f x e : ℕ) (v : Venue) → figure_in_range (record { edition = e; message = number; figure = f; value = x }) ≡ true → Ranged v → Ranged (set_figure number f x e v)
+unfolding set_figure enter_edition with_editions
 figure-ranged number f x e v h r = record {
   regular = r.regular;
   complex = r.complex;
@@ -269,34 +269,34 @@ figure-ranged number f x e v h r = record {
   last = r.last;
   len = r.len;
   eight = r.eight;
-  dated = set-each (λ y. held y.edition ≡ true → figureInRange y ≡ true) noEdition v.editions (freeEdition v) _ (λ _. h) r.dated;
+  dated = set-each (λ y. held y.edition ≡ true → figure_in_range y ≡ true) no_edition v.editions (free_edition v) _ (λ _. h) r.dated;
 }
 
-series-figure : (number s i e : ℕ) → leb s 7 ≡ true → isIncrement i ≡ true → figureInRange (record { edition = e; message = number; figure = s; value = i }) ≡ true
-unfolding figureInRange
+series-figure : (number s i e : ℕ) → leb s 7 ≡ true → is_increment i ≡ true → figure_in_range (record { edition = e; message = number; figure = s; value = i }) ≡ true
+unfolding figure_in_range
 series-figure number s i e a h = rw a h
 
-pub increment-ranged : (number s i e : ℕ) (v : Venue) → wellFormed (Increment s i e) ≡ true → Ranged v → Ranged (setFigure number s i e v)
-unfolding wellFormed isSeries within
+pub increment-ranged : (number s i e : ℕ) (v : Venue) → well_formed (Increment s i e) ≡ true → Ranged v → Ranged (set_figure number s i e v)
+unfolding well_formed is_series within
 increment-ranged number s i e v h r =
     let a : leb s 7 ≡ true = search (and_l, and_r, h) depth 6 in
-    let b : isIncrement i ≡ true = search (and_l, and_r, h) depth 6 in
+    let b : is_increment i ≡ true = search (and_l, and_r, h) depth 6 in
     figure-ranged number s i e v (series-figure number s i e a b) r
 
-pub percent-ranged : (number x e : ℕ) (v : Venue) → wellFormed (Percent x e) ≡ true → Ranged v → Ranged (setFigure number percentage x e v)
-unfolding wellFormed
-percent-ranged number x e v h r = figure-ranged number percentage x e v (unfold figureInRange in (and_l _ _ h)) r
+pub percent-ranged : (number x e : ℕ) (v : Venue) → well_formed (Percent x e) ≡ true → Ranged v → Ranged (set_figure number percentage x e v)
+unfolding well_formed
+percent-ranged number x e v h r = figure-ranged number percentage x e v (unfold figure_in_range in (and_l _ _ h)) r
 
-pub closed-ranged : (v : Venue) → Ranged v → Ranged (closeGaps v)
-unfolding closeGaps withRegular withComplex
+pub closed-ranged : (v : Venue) → Ranged v → Ranged (close_gaps v)
+unfolding close_gaps with_regular with_complex
 closed-ranged v r =
-    with-complex (with-regular r _ (λ i. subst RegFits (sym (was v i)) (r.regular _))) _ (λ i. subst CxFits (sym (wasC v i)) (r.complex _))
+    with-complex (with-regular r _ (λ i. subst RegFits (sym (was v i)) (r.regular _))) _ (λ i. subst CxFits (sym (was_c v i)) (r.complex _))
 
 -- Orders in range -----------------------------------------------------------------------------
 
 -- a message in range brings an order in range
-pub order-fits : (o : Regular) → regularInRange o ≡ true → RegFits o
-unfolding regularInRange isId isSeries isSide isPrice isQuantity within
+pub order-fits : (o : Regular) → regular_in_range o ≡ true → RegFits o
+unfolding regular_in_range is_id is_series is_side is_price is_quantity within
 order-fits o z =
     let a : leb o.id 4294967295 ≡ true = search (and_l, and_r, z) depth 12 in
     let b : leb o.series 7 ≡ true = search (and_l, and_r, z) depth 12 in
@@ -316,8 +316,8 @@ far-most : (b : Bool) → (if b then 200000 else 600000) ≤ 600000
 far-most true = omega arith
 far-most false = omega arith
 
-limit-small : (far : ℕ) (z : ℤ) → far ≤ 600000 → isLimit far z ≡ true → (plus z ≤ 600000) × (minus z ≤ 600000)
-unfolding isLimit
+limit-small : (far : ℕ) (z : ℤ) → far ≤ 600000 → is_limit far z ≡ true → (plus z ≤ 600000) × (minus z ≤ 600000)
+unfolding is_limit
 limit-small far z le t =
     let l = rw (neg-plus (pos far), neg-minus (pos far)) at (le_out (neg_ℤ (pos far)) z (and_l _ (le_z z (pos far)) t)) in
     let h = le_out z (pos far) (and_r (le_z (neg_ℤ (pos far)) z) _ t) in
@@ -331,19 +331,19 @@ limit-small far z le t =
     low (pos n) h = unfold plus minus in (omega arith)
     low (negsuc n) h = unfold plus minus in (omega arith)
 
-pub complex-fits : (c : Complex) → complexInRange c ≡ true → CxFits c
-unfolding complexInRange twoLegInRange isId isSeries isSide isQuantity isRatio within
+pub complex-fits : (c : Complex) → complex_in_range c ≡ true → CxFits c
+unfolding complex_in_range two_leg_in_range is_id is_series is_side is_quantity is_ratio within
 complex-fits c z =
     let a : leb c.id 4294967295 ≡ true = search (and_l, and_r, z) depth 14 in
     let s1 : leb c.series1 7 ≡ true = search (and_l, and_r, z) depth 14 in
     let s2 : leb c.series2 7 ≡ true = search (and_l, and_r, z) depth 14 in
     let d1 : leb c.side1 1 ≡ true = search (and_l, and_r, z) depth 14 in
     let d2 : leb c.side2 1 ≡ true = search (and_l, and_r, z) depth 14 in
-    let n : isLimit (if oneToOne c then 200000 else 600000) c.limit ≡ true = search (and_l, and_r, z) depth 14 in
+    let n : is_limit (if one_to_one c then 200000 else 600000) c.limit ≡ true = search (and_l, and_r, z) depth 14 in
     let q : leb c.quantity 10000 ≡ true = search (and_l, and_r, z) depth 14 in
     let r1 : leb c.ratio1 3 ≡ true = search (and_l, and_r, z) depth 14 in
     let r2 : leb c.ratio2 3 ≡ true = search (and_l, and_r, z) depth 14 in
-    let m = limit-small (if oneToOne c then 200000 else 600000) c.limit (far-most (oneToOne c)) n in
+    let m = limit-small (if one_to_one c then 200000 else 600000) c.limit (far-most (one_to_one c)) n in
     record {
       id = (let x = leb-true c.id 4294967295 a in omega arith);
       series1 = (let x = leb-true c.series1 7 s1 in omega arith);

@@ -23,9 +23,9 @@ keep f [] = []
 keep f (x ∷ xs) = if f x then x ∷ keep f xs else keep f xs
 
 -- the first place that passes a test; past the end if none does
-unfoldable pub placeWhere {ℓ} : {A : Type ℓ} → (A → Bool) → List A → ℕ
-placeWhere f [] = 0
-placeWhere f (x ∷ xs) = if f x then 0 else suc (placeWhere f xs)
+unfoldable pub place_where {ℓ} : {A : Type ℓ} → (A → Bool) → List A → ℕ
+place_where f [] = 0
+place_where f (x ∷ xs) = if f x then 0 else suc (place_where f xs)
 
 -- what is picked from a list: nobody, or an element with its place
 pub data Choice (A : Type 0) : Type 0 where
@@ -40,12 +40,12 @@ module _ {A : Type 0} where
   ranked before n a (picked i b) = if before b a then picked i b else picked n a
 
   -- among the candidates of a list whose places begin at n, the one before which none ranks; the earlier place of two that rank alike
-  unfoldable pub firstFrom : (candidate : A → Bool) → (before : A → A → Bool) → (n : ℕ) → List A → Choice A
-  firstFrom candidate before n [] = nobody
-  firstFrom candidate before n (a ∷ rest) =
-      let others = firstFrom candidate before (suc n) rest in
+  unfoldable pub first_from : (candidate : A → Bool) → (before : A → A → Bool) → (n : ℕ) → List A → Choice A
+  first_from candidate before n [] = nobody
+  first_from candidate before n (a ∷ rest) =
+      let others = first_from candidate before (suc n) rest in
       if candidate a then ranked before n a others else others
 
   -- the first in rank of a whole list
   abbrev pub first : (candidate : A → Bool) → (before : A → A → Bool) → List A → Choice A
-  first candidate before l = firstFrom candidate before 0 l
+  first candidate before l = first_from candidate before 0 l

@@ -10,12 +10,12 @@ unfoldable pub u8_at : List ℕ → ℕ → ℕ
 u8_at bs i = get_or bs i 0
 
 -- rule: B1
-unfoldable pub u16At : List ℕ → ℕ → ℕ
-u16At bs i = u8_at bs i + 256 * u8_at bs (i + 1)
+unfoldable pub u16_at : List ℕ → ℕ → ℕ
+u16_at bs i = u8_at bs i + 256 * u8_at bs (i + 1)
 
 -- rule: B1
 unfoldable pub u32_at : List ℕ → ℕ → ℕ
-u32_at bs i = u16At bs i + 65536 * u16At bs (i + 2)
+u32_at bs i = u16_at bs i + 65536 * u16_at bs (i + 2)
 
 -- an i32, in two's complement: 4,294,967,295 is -1
 -- rule: B1
@@ -24,12 +24,12 @@ as_signed x = if ltb x 2147483648 then pos x else negsuc (4294967295 - x)
 
 -- what every message and record begins with
 -- rule: B1
-unfoldable pub lengthField : List ℕ → ℕ
-lengthField bs = u16At bs 0
+unfoldable pub length_field : List ℕ → ℕ
+length_field bs = u16_at bs 0
 
 -- rule: B1
-unfoldable pub kindField : List ℕ → ℕ
-kindField bs = u16At bs 2
+unfoldable pub kind_field : List ℕ → ℕ
+kind_field bs = u16_at bs 2
 
 -- Writing -------------------------------------------------------------------------------------
 
@@ -39,9 +39,9 @@ unfoldable pub bytes : (count : ℕ) → ℕ → List ℕ
 bytes zero x = []
 bytes (suc n) x = x % 256 ∷ bytes n (x / 256)
 
-unfoldable pub asUnsigned : ℤ → ℕ
-asUnsigned (pos n) = n
-asUnsigned (negsuc n) = 4294967295 - n
+unfoldable pub as_unsigned : ℤ → ℕ
+as_unsigned (pos n) = n
+as_unsigned (negsuc n) = 4294967295 - n
 
 abbrev pub u8 : ℕ → List ℕ
 u8 = bytes 1
@@ -53,7 +53,7 @@ abbrev pub u32 : ℕ → List ℕ
 u32 = bytes 4
 
 abbrev pub i32 : ℤ → List ℕ
-i32 z = bytes 4 (asUnsigned z)
+i32 z = bytes 4 (as_unsigned z)
 
 -- "length u16 of the whole, kind u16, then fields"
 -- rule: B1

@@ -6,10 +6,10 @@ use Rattle.rules.specs.declared.Venue.{Venue}
 use Rattle.rules.specs.declared.Returned.{Returned}
 use Rattle.rules.specs.declared.Settings.{Settings}
 use Rattle.rules.specs.Base.{if◌then◌else◌}
-use Rattle.rules.specs.Words.{freshVenue}
-use Rattle.rules.specs.Settings.{percentage, inForce}
-use Rattle.rules.specs.Bytes.{lengthField}
-use Rattle.rules.specs.Records.{Report, encodeAll, sheet}
+use Rattle.rules.specs.Words.{fresh_venue}
+use Rattle.rules.specs.Settings.{percentage, in_force}
+use Rattle.rules.specs.Bytes.{length_field}
+use Rattle.rules.specs.Records.{Report, encode_all, sheet}
 use Rattle.rules.specs.Effects.{Effect}
 use Rattle.rules.specs.Step.{step}
 use Rattle.rules.specs.Sound.{sound, follows}
@@ -33,7 +33,7 @@ pub record Call : Type 0 where
 -- rule: B18, R14
 unfoldable pub called : (room : ℕ) → Outcome → Call
 called room o = record {
-  returned = record { number = o.number; done = o.done; written = length (encodeAll o.reports); venue = o.venue };
+  returned = record { number = o.number; done = o.done; written = length (encode_all o.reports); venue = o.venue };
   report = sheet room o.reports;
 }
 
@@ -41,7 +41,7 @@ called room o = record {
 -- refusal's 64 doesn't fit, the answer is 10"
 -- rule: R0, R10
 unfoldable pub exceeds : (number room : ℕ) → List Report → Bool
-exceeds number room rs = ltb 4294967295 number || ltb room (length (encodeAll rs))
+exceeds number room rs = ltb 4294967295 number || ltb room (length (encode_all rs))
 
 -- the call ends with a number before any further message
 -- rule: R9, R10
@@ -55,35 +55,35 @@ after e r = record { number = r.number; done = suc r.done; venue = r.venue; repo
 
 -- The four ends of a call that takes messages, each with the venue that it leaves. "A run's number is 1 or 10 if that ended it, else 0".
 -- 0: no message is left
-abbrev pub endOfList : Venue → Outcome
-endOfList = ends 0
+abbrev pub end_of_list : Venue → Outcome
+end_of_list = ends 0
 
 -- 1: the last message was torn, and was answered
-abbrev pub afterTorn : Venue → Outcome
-afterTorn = ends 1
+abbrev pub after_torn : Venue → Outcome
+after_torn = ends 1
 
 -- 9: the venue is unsound, or the number of the first message is not above every kept one
-abbrev pub notTaken : Venue → Outcome
-notTaken = ends 9
+abbrev pub not_taken : Venue → Outcome
+not_taken = ends 9
 
 -- 10: the next message exceeds, and is not done
-abbrev pub beforeExceeding : Venue → Outcome
-beforeExceeding = ends 10
+abbrev pub before_exceeding : Venue → Outcome
+before_exceeding = ends 10
 
 -- How a run goes on over the bytes bs on v, after n messages, with `room` report bytes left. Where no end is reached, the message is done
 -- and the run goes on after it. The fuel is the length of bs: a message that does not end the run has at least 4 bytes.
 -- rule: B17, R1, R10, R12
 unfoldable pub run_from : (fuel : ℕ) → Venue → (n room : ℕ) → (bs : List ℕ) → Outcome
-run_from zero v n room bs = endOfList v
+run_from zero v n room bs = end_of_list v
 run_from (suc fuel) v n room bs =
     let a = step v (suc n) bs in
     elim (eqb (length bs) 0) [
-      | true ↦ endOfList v
+      | true ↦ end_of_list v
       | false ↦ elim (exceeds (suc n) room a.effect.reports) [
-        | true ↦ beforeExceeding v
+        | true ↦ before_exceeding v
         | false ↦ after a.effect (elim (eqb a.refused 1) [
-          | true ↦ afterTorn a.effect.venue
-          | false ↦ run_from fuel a.effect.venue (suc n) (room - length (encodeAll a.effect.reports)) (drop (lengthField bs) bs)
+          | true ↦ after_torn a.effect.venue
+          | false ↦ run_from fuel a.effect.venue (suc n) (room - length (encode_all a.effect.reports)) (drop (length_field bs) bs)
         ])
       ]
     ]
@@ -91,7 +91,7 @@ run_from (suc fuel) v n room bs =
 -- "a run from fresh over a message list"
 -- rule: R12
 unfoldable pub run : (room : ℕ) → List ℕ → Call
-run room bs = called room (run_from (length bs) freshVenue 0 room bs)
+run room bs = called room (run_from (length bs) fresh_venue 0 room bs)
 
 -- a call on v, after n messages, does not get 9: v is sound, and the number n + 1 is above every kept one.
 -- 9: "one-message call given an unsound venue": "number 9; the venue as given, all report bytes 0".
@@ -103,24 +103,24 @@ is_taken v n = sound v && follows (suc n) v
 -- does them. An empty list gets 9 where the venue is not taken, and else 0. Where n is 4,294,967,295 there is no first number:
 -- every kept number is below n + 1, so only an unsound venue gets 9. As 10 comes before a message only, an empty list gets 0 there too.
 -- A run from fresh is the case of the fresh venue and n = 0 (demands Agree: `FromFresh`).
-unfoldable pub runUponFrom : Venue → (n room : ℕ) → List ℕ → Outcome
-runUponFrom v n room bs = if not (is_taken v n) then notTaken v else run_from (length bs) v n room bs
+unfoldable pub run_upon_from : Venue → (n room : ℕ) → List ℕ → Outcome
+run_upon_from v n room bs = if not (is_taken v n) then not_taken v else run_from (length bs) v n room bs
 
-unfoldable pub runUpon : Venue → (n room : ℕ) → List ℕ → Call
-runUpon v n room bs = called room (runUponFrom v n room bs)
+unfoldable pub run_upon : Venue → (n room : ℕ) → List ℕ → Call
+run_upon v n room bs = called room (run_upon_from v n room bs)
 
 -- "one message upon a venue", after n messages: "9 before all"; "a one-message call's is 9, 10 or its message's own"
 -- rule: R0, R9, R10, R12, (d)5
-unfoldable pub oneFrom : Venue → (n room : ℕ) → List ℕ → Outcome
-oneFrom v n room bs =
+unfoldable pub one_from : Venue → (n room : ℕ) → List ℕ → Outcome
+one_from v n room bs =
     let a = step v (suc n) bs in
-    if not (is_taken v n) then notTaken v
-    else if exceeds (suc n) room a.effect.reports then beforeExceeding v
+    if not (is_taken v n) then not_taken v
+    else if exceeds (suc n) room a.effect.reports then before_exceeding v
     else after a.effect (ends a.refused a.effect.venue)
 
 -- rule: R12
 unfoldable pub one : Venue → (n room : ℕ) → List ℕ → Call
-one v n room bs = called room (oneFrom v n room bs)
+one v n room bs = called room (one_from v n room bs)
 
 -- Document 02 (d): "tells the eight increments and the percent in force at any message number"; "asked of an unsound venue, the settings
 -- are told as 9 and zeros"
@@ -128,5 +128,5 @@ one v n room bs = called room (oneFrom v n room bs)
 unfoldable pub settings : Venue → (number : ℕ) → Settings
 settings v n =
     if sound v
-    then record { number = 0; increments = map (inForce v n) (0 ∷ 1 ∷ 2 ∷ 3 ∷ 4 ∷ 5 ∷ 6 ∷ 7 ∷ []); percent = inForce v n percentage }
+    then record { number = 0; increments = map (in_force v n) (0 ∷ 1 ∷ 2 ∷ 3 ∷ 4 ∷ 5 ∷ 6 ∷ 7 ∷ []); percent = in_force v n percentage }
     else record { number = 9; increments = replicate 8 0; percent = 0 }

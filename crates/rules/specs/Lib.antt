@@ -25,9 +25,9 @@
 --   f x y                     f of x and y;  c.limit is the field limit of c;  (λ n l. e) is the function of n and l that gives e
 --   x ∷ xs, [], xs ++ ys      a list with x first, the empty one, one list after another
 --   pos n, negsuc n           the integers n and -(n + 1);  +ℤ, -ℤ, *ℤ, negℤ are their operations
---   leb, ltb, eqb, leZ, ltZ   the tests ≤, <, = of numbers, and ≤, < of integers;  &&, ||, not join them
+--   leb, ltb, eqb, le_z, lt_z   the tests ≤, <, = of numbers, and ≤, < of integers;  &&, ||, not join them
 --   elim x [ a ↦ e | b ↦ g ]  e or g, by which case of its type x is
---   getD l i x, set l i y     the element of l at place i, x past the end;  l with y at place i
+--   get_d l i x, set l i y     the element of l at place i, x past the end;  l with y at place i
 --   e ⟫ f                     the effect e, and then f on the venue that e left; the records come in that order
 --   held q                    q is not 0: a place holds an order while its quantity is held, a price is there while it is held
 --   fuel                      a bound on the turns of a loop, named where it is given and large enough for every turn there can be

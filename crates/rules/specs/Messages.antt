@@ -6,8 +6,8 @@ use Rattle.rules.specs.declared.Complex.{Complex}
 use Rattle.rules.specs.declared.Message.{Message}
 use Rattle.rules.specs.declared.Message.TheVariants.{Order, TwoLeg, Cancel, Away, Status, Sweep, Increment, Percent, LimitedSweep}
 use Rattle.rules.specs.Base.{if◌then◌else◌}
-use Rattle.rules.specs.Words.{oneToOne}
-use Rattle.rules.specs.Bytes.{u8_at, u32_at, as_signed, kindField, u8, u32, i32, framed}
+use Rattle.rules.specs.Words.{one_to_one}
+use Rattle.rules.specs.Bytes.{u8_at, u32_at, as_signed, kind_field, u8, u32, i32, framed}
 
 -- The table's column "Length", by kind; 0 for what is no kind of message.
 -- rule: B2, (c)1
@@ -41,8 +41,8 @@ order_at x bs = record {
 
 -- 2 complex: id u32, series u8, side u8, series u8, side u8, class u8, N i32, quantity u32; with its ratios
 -- rule: B3, (g)1
-unfoldable pub twoLegAt : List ℕ → (ratio1 ratio2 : ℕ) → Complex
-twoLegAt bs r s = record {
+unfoldable pub two_leg_at : List ℕ → (ratio1 ratio2 : ℕ) → Complex
+two_leg_at bs r s = record {
   id = u32_at bs 4;
   series1 = u8_at bs 8;
   side1 = u8_at bs 9;
@@ -61,11 +61,11 @@ twoLegAt bs r s = record {
 -- (e): "Kind 9 is kind 1 with a shown quantity u32 after it". (g): "Kind 10 is kind 2 with two ratio bytes after it".
 -- (m): "Kind 11 is a sweep limited to n resting orders (u8 …)".
 -- rule: B2, (d)1, (e)1, (g)1, (m)6
-unfoldable pub messageOf : List ℕ → Message
-messageOf bs =
-    let k = kindField bs in
+unfoldable pub message_of : List ℕ → Message
+message_of bs =
+    let k = kind_field bs in
     if eqb k 1 then Order (order_at (u32_at bs 14) bs)
-    else if eqb k 2 then TwoLeg (twoLegAt bs 1 1)
+    else if eqb k 2 then TwoLeg (two_leg_at bs 1 1)
     else if eqb k 3 then Cancel (u32_at bs 4)
     else if eqb k 4 then Away (u8_at bs 4) (u32_at bs 5) (u32_at bs 9)
     else if eqb k 5 then Status (u8_at bs 4) (u8_at bs 5)
@@ -73,54 +73,54 @@ messageOf bs =
     else if eqb k 7 then Increment (u8_at bs 4) (u8_at bs 5) (u32_at bs 6)
     else if eqb k 8 then Percent (u8_at bs 4) (u32_at bs 5)
     else if eqb k 9 then Order (order_at (u32_at bs 18) bs)
-    else if eqb k 10 then TwoLeg (twoLegAt bs (u8_at bs 21) (u8_at bs 22))
+    else if eqb k 10 then TwoLeg (two_leg_at bs (u8_at bs 21) (u8_at bs 22))
     else LimitedSweep (u8_at bs 4)
 
 -- A number for each case of the type Message, in the order of the cases. It is no kind of the papers: an order is of kind 1 or 9, a
--- complex order of kind 2 or 10, a limited sweep of kind 11. The paper's kind of a message is the one that `encodeMessage` frames it
+-- complex order of kind 2 or 10, a limited sweep of kind 11. The paper's kind of a message is the one that `encode_message` frames it
 -- with.
 -- rule: (c)1
-abbrev pub messageForm : Message → ℕ
-messageForm (Order o) = 1
-messageForm (TwoLeg c) = 2
-messageForm (Cancel id) = 3
-messageForm (Away s bid offer) = 4
-messageForm (Status s x) = 5
-messageForm Sweep = 6
-messageForm (Increment s i e) = 7
-messageForm (Percent x e) = 8
-messageForm (LimitedSweep n) = 9
+abbrev pub message_form : Message → ℕ
+message_form (Order o) = 1
+message_form (TwoLeg c) = 2
+message_form (Cancel id) = 3
+message_form (Away s bid offer) = 4
+message_form (Status s x) = 5
+message_form Sweep = 6
+message_form (Increment s i e) = 7
+message_form (Percent x e) = 8
+message_form (LimitedSweep n) = 9
 
 -- the fields of an order, without its shown quantity
 -- rule: B2
-unfoldable pub orderFields : Regular → List ℕ
-orderFields o = u32 o.id ++ u8 o.series ++ u8 o.side ++ u32 o.price ++ u32 o.quantity
+unfoldable pub order_fields : Regular → List ℕ
+order_fields o = u32 o.id ++ u8 o.series ++ u8 o.side ++ u32 o.price ++ u32 o.quantity
 
 -- the fields of kind 2, which kind 10 begins with
 -- rule: B3
-unfoldable pub twoLegFields : Complex → List ℕ
-twoLegFields c =
+unfoldable pub two_leg_fields : Complex → List ℕ
+two_leg_fields c =
     u32 c.id ++ u8 c.series1 ++ u8 c.side1 ++ u8 c.series2 ++ u8 c.side2 ++ u8 c.class
     ++ i32 c.limit ++ u32 c.quantity
 
 -- the bytes of a message; of an order that shows all of it those of kind 1, of a complex order one to one those of kind 2
 -- rule: B2, (d)1, (e)1, (g)1
-unfoldable pub encodeMessage : Message → List ℕ
-encodeMessage (Order o) = if eqb o.display o.quantity then framed 1 (orderFields o) else framed 9 (orderFields o ++ u32 o.display)
-encodeMessage (TwoLeg c) =
-    if oneToOne c
-    then framed 2 (twoLegFields c)
-    else framed 10 (twoLegFields c ++ u8 c.ratio1 ++ u8 c.ratio2)
-encodeMessage (Cancel id) = framed 3 (u32 id)
-encodeMessage (Away s bid offer) = framed 4 (u8 s ++ u32 bid ++ u32 offer)
-encodeMessage (Status s x) = framed 5 (u8 s ++ u8 x)
-encodeMessage Sweep = framed 6 []
-encodeMessage (Increment s i e) = framed 7 (u8 s ++ u8 i ++ u32 e)
-encodeMessage (Percent x e) = framed 8 (u8 x ++ u32 e)
-encodeMessage (LimitedSweep n) = framed 11 (u8 n)
+unfoldable pub encode_message : Message → List ℕ
+encode_message (Order o) = if eqb o.display o.quantity then framed 1 (order_fields o) else framed 9 (order_fields o ++ u32 o.display)
+encode_message (TwoLeg c) =
+    if one_to_one c
+    then framed 2 (two_leg_fields c)
+    else framed 10 (two_leg_fields c ++ u8 c.ratio1 ++ u8 c.ratio2)
+encode_message (Cancel id) = framed 3 (u32 id)
+encode_message (Away s bid offer) = framed 4 (u8 s ++ u32 bid ++ u32 offer)
+encode_message (Status s x) = framed 5 (u8 s ++ u8 x)
+encode_message Sweep = framed 6 []
+encode_message (Increment s i e) = framed 7 (u8 s ++ u8 i ++ u32 e)
+encode_message (Percent x e) = framed 8 (u8 x ++ u32 e)
+encode_message (LimitedSweep n) = framed 11 (u8 n)
 
 -- "the lengths by kind … be proved those of document 01 for every kind" (request (c)): each message has as many bytes as the length of
 -- their kind
 -- rule: (c)1
 abbrev pub KindLengths : Type 0
-KindLengths = (m : Message) → length (encodeMessage m) ≡ length_of (kindField (encodeMessage m))
+KindLengths = (m : Message) → length (encode_message m) ≡ length_of (kind_field (encode_message m))

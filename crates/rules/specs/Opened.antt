@@ -1,71 +1,71 @@
 -- `unfolding opened-rules` opens every definition of the rules, for a statement that computes.
-use Rattle.rules.specs.Base.{all, keep, placeWhere, ranked, firstFrom}
-use Rattle.rules.specs.Words.{opposite, signTimes, within, isId, isSeries, isSide, isClass, isStatus, isQuantity, isAway, isPrice}
-use Rattle.rules.specs.Words.{isLimit}
-use Rattle.rules.specs.Words.{isRatio, placeOf, freshVenue, regularAt, complexAt, leggingAt, statusOf, withRegular, withComplex}
-use Rattle.rules.specs.Words.{withLegging}
-use Rattle.rules.specs.Words.{withSeries, withEditions, withGenerations, with_last, withReached, isRegularOf, isComplexOf, oneToOne}
+use Rattle.rules.specs.Base.{all, keep, place_where, ranked, first_from}
+use Rattle.rules.specs.Words.{opposite, sign_times, within, is_id, is_series, is_side, is_class, is_status, is_quantity, is_away, is_price}
+use Rattle.rules.specs.Words.{is_limit}
+use Rattle.rules.specs.Words.{is_ratio, place_of, fresh_venue, regular_at, complex_at, legging_at, status_of, with_regular, with_complex}
+use Rattle.rules.specs.Words.{with_legging}
+use Rattle.rules.specs.Words.{with_series, with_editions, with_generations, with_last, with_reached, is_regular_of, is_complex_of, one_to_one}
 use Rattle.rules.specs.Words.{earlier}
-use Rattle.rules.specs.Words.{earlierComplex}
-use Rattle.rules.specs.Settings.{isIncrement, isPercent, isEdition, baseFigure, sets, lastValue, inForce, figureNow, increment}
-use Rattle.rules.specs.Settings.{percent, freeEdition, enterEdition}
-use Rattle.rules.specs.Bytes.{u8_at, u16At, u32_at, as_signed, lengthField, kindField, bytes, asUnsigned, framed}
-use Rattle.rules.specs.Messages.{length_of, order_at, twoLegAt, messageOf, orderFields, twoLegFields, encodeMessage}
-use Rattle.rules.specs.Records.{encode, encodeAll, sheet, causeOf, recordOf, recordsFrom, records}
+use Rattle.rules.specs.Words.{earlier_complex}
+use Rattle.rules.specs.Settings.{is_increment, is_percent, is_edition, base_figure, sets, last_value, in_force, figure_now, increment}
+use Rattle.rules.specs.Settings.{percent, free_edition, enter_edition}
+use Rattle.rules.specs.Bytes.{u8_at, u16_at, u32_at, as_signed, length_field, kind_field, bytes, as_unsigned, framed}
+use Rattle.rules.specs.Messages.{length_of, order_at, two_leg_at, message_of, order_fields, two_leg_fields, encode_message}
+use Rattle.rules.specs.Records.{encode, encode_all, sheet, cause_of, record_of, records_from, records}
 use Rattle.rules.specs.Effects.{nothing, report, ◌⟫◌, repeat}
-use Rattle.rules.specs.Prices.{better, betterOf, reaches, restsAt, shownSize, showsAt, showsFor, bestIn, sizeIn, bestRegular}
-use Rattle.rules.specs.Prices.{bestSize, ownPrice}
-use Rattle.rules.specs.Prices.{bestOwn, ownSize, clearPrice, displayedPrice, away, marketBest, weighed, net, taken1, taken2, nearNet}
-use Rattle.rules.specs.Prices.{inBand}
-use Rattle.rules.specs.Removal.{stay, goes, stayers, leavers, remove, failIf, removeOf}
-use Rattle.rules.specs.Standing.{findComplex, parentOf, hasLeg, otherLeg, otherClear, otherSize, bothOpen, displayedNoWorse, pairs}
-use Rattle.rules.specs.Standing.{verdictOf, verdict, stands, showsAgain, showAgain, settle}
-use Rattle.rules.specs.Trading.{lessRegular, lessComplex, fillRegular, fillComplex, freeRegular, freeComplex, putRegular}
-use Rattle.rules.specs.Trading.{putComplex, tradeWith, tradeAtPrice, pairOff}
-use Rattle.rules.specs.Order.{isMet, shownThenId, priceThenId, at_once, firstMet, leggingFirst, meet, hit, meetTurn, enterRegular}
+use Rattle.rules.specs.Prices.{better, better_of, reaches, rests_at, shown_size, shows_at, shows_for, best_in, size_in, best_regular}
+use Rattle.rules.specs.Prices.{best_size, own_price}
+use Rattle.rules.specs.Prices.{best_own, own_size, clear_price, displayed_price, away, market_best, weighed, net, taken1, taken2, near_net}
+use Rattle.rules.specs.Prices.{in_band}
+use Rattle.rules.specs.Removal.{stay, goes, stayers, leavers, remove, fail_if, remove_of}
+use Rattle.rules.specs.Standing.{find_complex, parent_of, has_leg, other_leg, other_clear, other_size, both_open, displayed_no_worse, pairs}
+use Rattle.rules.specs.Standing.{verdict_of, verdict, stands, shows_again, show_again, settle}
+use Rattle.rules.specs.Trading.{less_regular, less_complex, fill_regular, fill_complex, free_regular, free_complex, put_regular}
+use Rattle.rules.specs.Trading.{put_complex, trade_with, trade_at_price, pair_off}
+use Rattle.rules.specs.Order.{is_met, shown_then_id, price_then_id, at_once, first_met, legging_first, meet, hit, meet_turn, enter_regular}
 use Rattle.rules.specs.Order.{order}
-use Rattle.rules.specs.Generation.{asPrice, legPrice, newLegging, placed, generationsOf, underCeiling, oneMore, counted, reachesAny}
-use Rattle.rules.specs.Generation.{givesWay, othersStand, makes, make, generateLeg, generate}
-use Rattle.rules.specs.Complex.{anyClosed, reversed, respectsLegs, crosses, limitThenId, cross, crossTurn, touches, takenSide}
-use Rattle.rules.specs.Complex.{fillsUnit, touch}
-use Rattle.rules.specs.Complex.{legsIn, legIn, unitsIn, legInTurn, work, complex, places_of, restingPlaces, eachOf, sweep}
-use Rattle.rules.specs.Complex.{goingRound, examined}
-use Rattle.rules.specs.Complex.{idReached, limitedSweep, cancelRegular, cancelComplex, regularPlace, complexPlace}
-use Rattle.rules.specs.Complex.{restsRegular}
-use Rattle.rules.specs.Complex.{restsComplex, cancel}
-use Rattle.rules.specs.Places.{blankRegular, blankComplex, blankEdition, blankLegging, packed, closeGaps, arranged}
-use Rattle.rules.specs.Refusals.{torn, isKind, isLength, regularInRange, twoLegInRange, farOf, in_range, equalRatios, decoded}
-use Rattle.rules.specs.Refusals.{complexInRange}
-use Rattle.rules.specs.Refusals.{onIncrement, offIncrement, editionTooLow, idle, inUse, noEditionLeft, idTooLow, onClosed, full}
+use Rattle.rules.specs.Generation.{as_price, leg_price, new_legging, placed, generations_of, under_ceiling, one_more, counted, reaches_any}
+use Rattle.rules.specs.Generation.{gives_way, others_stand, makes, make, generate_leg, generate}
+use Rattle.rules.specs.Complex.{any_closed, reversed, respects_legs, crosses, limit_then_id, cross, cross_turn, touches, taken_side}
+use Rattle.rules.specs.Complex.{fills_unit, touch}
+use Rattle.rules.specs.Complex.{legs_in, leg_in, units_in, leg_in_turn, work, complex, places_of, resting_places, each_of, sweep}
+use Rattle.rules.specs.Complex.{going_round, examined}
+use Rattle.rules.specs.Complex.{id_reached, limited_sweep, cancel_regular, cancel_complex, regular_place, complex_place}
+use Rattle.rules.specs.Complex.{rests_regular}
+use Rattle.rules.specs.Complex.{rests_complex, cancel}
+use Rattle.rules.specs.Places.{blank_regular, blank_complex, blank_edition, blank_legging, packed, close_gaps, arranged}
+use Rattle.rules.specs.Refusals.{torn, is_kind, is_length, regular_in_range, two_leg_in_range, far_of, in_range, equal_ratios, decoded}
+use Rattle.rules.specs.Refusals.{complex_in_range}
+use Rattle.rules.specs.Refusals.{on_increment, off_increment, edition_too_low, idle, in_use, no_edition_left, id_too_low, on_closed, full}
 use Rattle.rules.specs.Refusals.{unknown}
-use Rattle.rules.specs.Refusals.{refusalOf, refusal}
-use Rattle.rules.specs.Step.{setAway, setStatus, setFigure, perform, accept, mask, filled, answered, step}
-use Rattle.rules.specs.Sound.{apart, listedInRange, leggingSound, leggingsSound, showsFully, regularsSound, complexesSound}
-use Rattle.rules.specs.Sound.{idsDistinct}
-use Rattle.rules.specs.Sound.{figureInRange, editionInRange, editionsSound, unfallen, generationsSound, sound, follows}
-use Rattle.rules.specs.Calls.{called, exceeds, ends, after, run_from, run, runUponFrom, runUpon, oneFrom, one, settings}
-use Rattle.rules.specs.Sums.{total, contracts, contractsAt, paired, crossedFor, cancelledOf, generatedOf, open_in}
-use Rattle.rules.specs.Lengths.{recordLength}
+use Rattle.rules.specs.Refusals.{refusal_of, refusal}
+use Rattle.rules.specs.Step.{set_away, set_status, set_figure, perform, accept, mask, filled, answered, step}
+use Rattle.rules.specs.Sound.{apart, listed_in_range, legging_sound, leggings_sound, shows_fully, regulars_sound, complexes_sound}
+use Rattle.rules.specs.Sound.{ids_distinct}
+use Rattle.rules.specs.Sound.{figure_in_range, edition_in_range, editions_sound, unfallen, generations_sound, sound, follows}
+use Rattle.rules.specs.Calls.{called, exceeds, ends, after, run_from, run, run_upon_from, run_upon, one_from, one, settings}
+use Rattle.rules.specs.Sums.{total, contracts, contracts_at, paired, crossed_for, cancelled_of, generated_of, open_in}
+use Rattle.rules.specs.Lengths.{record_length}
 
 unfoldable pub opened-rules : Unit {0}
-unfolding all keep placeWhere ranked firstFrom opposite signTimes within isId isSeries isSide isClass isStatus isQuantity isAway isPrice
-    isLimit isRatio placeOf freshVenue regularAt complexAt leggingAt statusOf withRegular withComplex withLegging withSeries
-    withEditions withGenerations with_last withReached isRegularOf isComplexOf oneToOne earlier earlierComplex isIncrement isPercent
-    isEdition baseFigure sets lastValue inForce figureNow increment percent freeEdition enterEdition u8_at u16At u32_at as_signed
-    lengthField kindField bytes asUnsigned framed length_of order_at twoLegAt messageOf orderFields twoLegFields encodeMessage encode
-    encodeAll sheet causeOf recordOf recordsFrom records nothing report ◌⟫◌ repeat better betterOf reaches restsAt shownSize showsAt
-    showsFor bestIn sizeIn bestRegular bestSize ownPrice bestOwn ownSize clearPrice displayedPrice away marketBest weighed net taken1
-    taken2 nearNet inBand stay goes stayers leavers remove failIf removeOf findComplex parentOf hasLeg otherLeg otherClear otherSize
-    bothOpen displayedNoWorse pairs verdictOf verdict stands showsAgain showAgain settle lessRegular lessComplex fillRegular fillComplex
-    freeRegular freeComplex putRegular putComplex tradeWith tradeAtPrice pairOff isMet shownThenId priceThenId at_once firstMet
-    leggingFirst meet hit meetTurn enterRegular order asPrice legPrice newLegging placed generationsOf underCeiling oneMore counted
-    reachesAny givesWay othersStand makes make generateLeg generate anyClosed reversed respectsLegs crosses limitThenId cross crossTurn
-    touches takenSide fillsUnit touch legsIn legIn unitsIn legInTurn work complex places_of restingPlaces eachOf sweep goingRound
-    examined idReached limitedSweep cancelRegular cancelComplex regularPlace complexPlace restsRegular restsComplex cancel blankRegular
-    blankComplex blankEdition blankLegging packed closeGaps arranged torn isKind isLength regularInRange twoLegInRange farOf in_range
-    equalRatios decoded complexInRange onIncrement offIncrement editionTooLow idle inUse noEditionLeft idTooLow onClosed full unknown
-    refusalOf refusal setAway setStatus setFigure perform accept mask filled answered step apart listedInRange leggingSound
-    leggingsSound showsFully regularsSound complexesSound idsDistinct figureInRange editionInRange editionsSound unfallen
-    generationsSound sound follows called exceeds ends after run_from run runUponFrom runUpon oneFrom one settings total contracts
-    contractsAt paired crossedFor cancelledOf generatedOf open_in recordLength
+unfolding all keep place_where ranked first_from opposite sign_times within is_id is_series is_side is_class is_status is_quantity is_away is_price
+    is_limit is_ratio place_of fresh_venue regular_at complex_at legging_at status_of with_regular with_complex with_legging with_series
+    with_editions with_generations with_last with_reached is_regular_of is_complex_of one_to_one earlier earlier_complex is_increment is_percent
+    is_edition base_figure sets last_value in_force figure_now increment percent free_edition enter_edition u8_at u16_at u32_at as_signed
+    length_field kind_field bytes as_unsigned framed length_of order_at two_leg_at message_of order_fields two_leg_fields encode_message encode
+    encode_all sheet cause_of record_of records_from records nothing report ◌⟫◌ repeat better better_of reaches rests_at shown_size shows_at
+    shows_for best_in size_in best_regular best_size own_price best_own own_size clear_price displayed_price away market_best weighed net taken1
+    taken2 near_net in_band stay goes stayers leavers remove fail_if remove_of find_complex parent_of has_leg other_leg other_clear other_size
+    both_open displayed_no_worse pairs verdict_of verdict stands shows_again show_again settle less_regular less_complex fill_regular fill_complex
+    free_regular free_complex put_regular put_complex trade_with trade_at_price pair_off is_met shown_then_id price_then_id at_once first_met
+    legging_first meet hit meet_turn enter_regular order as_price leg_price new_legging placed generations_of under_ceiling one_more counted
+    reaches_any gives_way others_stand makes make generate_leg generate any_closed reversed respects_legs crosses limit_then_id cross cross_turn
+    touches taken_side fills_unit touch legs_in leg_in units_in leg_in_turn work complex places_of resting_places each_of sweep going_round
+    examined id_reached limited_sweep cancel_regular cancel_complex regular_place complex_place rests_regular rests_complex cancel blank_regular
+    blank_complex blank_edition blank_legging packed close_gaps arranged torn is_kind is_length regular_in_range two_leg_in_range far_of in_range
+    equal_ratios decoded complex_in_range on_increment off_increment edition_too_low idle in_use no_edition_left id_too_low on_closed full unknown
+    refusal_of refusal set_away set_status set_figure perform accept mask filled answered step apart listed_in_range legging_sound
+    leggings_sound shows_fully regulars_sound complexes_sound ids_distinct figure_in_range edition_in_range editions_sound unfallen
+    generations_sound sound follows called exceeds ends after run_from run run_upon_from run_upon one_from one settings total contracts
+    contracts_at paired crossed_for cancelled_of generated_of open_in record_length
 opened-rules = tt

@@ -7,34 +7,34 @@ use Rattle.rules.specs.declared.Legging.{Legging}
 use Rattle.rules.specs.declared.Edition.{Edition}
 use Rattle.rules.specs.declared.Venue.{Venue}
 use Rattle.rules.specs.Base.{if◌then◌else◌, held, all, keep}
-use Rattle.rules.specs.Words.{noRegular, noComplex, withRegular, withComplex}
+use Rattle.rules.specs.Words.{no_regular, no_complex, with_regular, with_complex}
 
-abbrev pub holdsRegular : Regular → Bool
-holdsRegular o = held o.quantity
+abbrev pub holds_regular : Regular → Bool
+holds_regular o = held o.quantity
 
-abbrev pub holdsComplex : Complex → Bool
-holdsComplex c = held c.quantity
+abbrev pub holds_complex : Complex → Bool
+holds_complex c = held c.quantity
 
-abbrev pub holdsEdition : Edition → Bool
-holdsEdition e = held e.edition
+abbrev pub holds_edition : Edition → Bool
+holds_edition e = held e.edition
 
 -- a place that is all zero
-unfoldable pub blankRegular : Regular → Bool
-blankRegular o =
+unfoldable pub blank_regular : Regular → Bool
+blank_regular o =
     eqb o.id 0 && eqb o.series 0 && eqb o.side 0 && eqb o.price 0 && eqb o.quantity 0
     && eqb o.display 0 && eqb o.reserve 0
 
-unfoldable pub blankComplex : Complex → Bool
-blankComplex c =
+unfoldable pub blank_complex : Complex → Bool
+blank_complex c =
     eqb c.id 0 && eqb c.series1 0 && eqb c.side1 0 && eqb c.series2 0 && eqb c.side2 0
     && eqb c.class 0 && eqb (nat_abs c.limit) 0 && eqb c.quantity 0 && eqb c.ratio1 0 && eqb c.ratio2 0
 
-unfoldable pub blankEdition : Edition → Bool
-blankEdition e = eqb e.edition 0 && eqb e.message 0 && eqb e.figure 0 && eqb e.value 0
+unfoldable pub blank_edition : Edition → Bool
+blank_edition e = eqb e.edition 0 && eqb e.message 0 && eqb e.figure 0 && eqb e.value 0
 
 -- rule: V1
-unfoldable pub blankLegging : Legging → Bool
-blankLegging l = eqb l.parent 0 && eqb l.price 0 && eqb l.quantity 0
+unfoldable pub blank_legging : Legging → Bool
+blank_legging l = eqb l.parent 0 && eqb l.price 0 && eqb l.quantity 0
 
 -- Closing gaps --------------------------------------------------------------------------------
 
@@ -43,8 +43,8 @@ unfoldable pub packed : {A : Type 0} → (A → Bool) → A → List A → List 
 packed holds none l = keep holds l ++ replicate (length l - length (keep holds l)) none
 
 -- rule: W11
-unfoldable pub closeGaps : Venue → Venue
-closeGaps v = withComplex (withRegular v (packed holdsRegular noRegular v.regular)) (packed holdsComplex noComplex v.complex)
+unfoldable pub close_gaps : Venue → Venue
+close_gaps v = with_complex (with_regular v (packed holds_regular no_regular v.regular)) (packed holds_complex no_complex v.complex)
 
 -- The test of the arrangement -----------------------------------------------------------------
 

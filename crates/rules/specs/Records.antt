@@ -4,7 +4,7 @@ use Rattle.rules.specs.declared.Cause.{Cause}
 use Rattle.rules.specs.declared.Cause.TheVariants.{Worse, Unpaired, Executed, Withdrawn, OutOfBand, NotOpen, Replaced, Touched}
 use Rattle.rules.specs.declared.Cause.TheVariants.{NoUnit}
 use Rattle.rules.specs.Base.{if◌then◌else◌}
-use Rattle.rules.specs.Bytes.{u8_at, u16At, u32_at, as_signed, lengthField, kindField, u8, u16, u32, i32, framed}
+use Rattle.rules.specs.Bytes.{u8_at, u16_at, u32_at, as_signed, length_field, kind_field, u8, u16, u32, i32, framed}
 
 -- the records, by the table's columns
 -- rule: B8
@@ -20,25 +20,25 @@ pub data Report : Type 0 where
 
 -- 01's number of a cause; the filing's clause beside it
 -- rule: B12
-abbrev pub causeNumber : Cause → ℕ
+abbrev pub cause_number : Cause → ℕ
 -- (C)(4)(i): no longer at the displayed best bid or offer
-causeNumber Worse = 1
+cause_number Worse = 1
 -- (C)(4)(ii): the net price is no longer achieved
-causeNumber Unpaired = 2
+cause_number Unpaired = 2
 -- (C)(4)(iii): the complex order is executed in full or in part
-causeNumber Executed = 3
+cause_number Executed = 3
 -- (C)(4)(iv): the complex order is cancelled
-causeNumber Withdrawn = 4
+cause_number Withdrawn = 4
 -- (C)(4)(v): outside the ACE parameter
-causeNumber OutOfBand = 5
+cause_number OutOfBand = 5
 -- (C)(4)(vi): an auction; 01 adds a series that is closed
-causeNumber NotOpen = 6
+cause_number NotOpen = 6
 -- (C)(4)(vii): a better price, or the same price with a higher priority
-causeNumber Replaced = 7
+cause_number Replaced = 7
 -- (C)(4)(viii) and (ix)
-causeNumber Touched = 8
+cause_number Touched = 8
 -- (C)(4)(x); request (g): touched by an order of unequal ratios where the sizes can't fill a unit
-causeNumber NoUnit = 10
+cause_number NoUnit = 10
 
 -- Writing -------------------------------------------------------------------------------------
 
@@ -55,7 +55,7 @@ encode (pair id n quantity) = framed 66 (u32 id ++ i32 n ++ u32 quantity)
 encode (generated id series side price displayed quantity) =
     framed 67 (u32 id ++ u8 series ++ u8 side ++ u32 price ++ u32 displayed ++ u32 quantity)
 -- 68 removed: complex id u32, series u8, side u8, cause u8
-encode (removed id series side cause) = framed 68 (u32 id ++ u8 series ++ u8 side ++ u8 (causeNumber cause))
+encode (removed id series side cause) = framed 68 (u32 id ++ u8 series ++ u8 side ++ u8 (cause_number cause))
 -- 70 cross: taker id u32, maker id u32, taker's net i32, quantity u32
 encode (crossed taker maker n quantity) = framed 70 (u32 taker ++ u32 maker ++ i32 n ++ u32 quantity)
 -- 71 cancelled: id u32, quantity u32
@@ -64,21 +64,21 @@ encode (cancelled id quantity) = framed 71 (u32 id ++ u32 quantity)
 encode (looked count) = framed 72 (u8 count)
 
 -- rule: B18
-unfoldable pub encodeAll : List Report → List ℕ
-encodeAll [] = []
-encodeAll (r ∷ rs) = encode r ++ encodeAll rs
+unfoldable pub encode_all : List Report → List ℕ
+encode_all [] = []
+encode_all (r ∷ rs) = encode r ++ encode_all rs
 
 -- a report memory of a length: its records, and then zeros
 -- rule: B18
 unfoldable pub sheet : (room : ℕ) → List Report → List ℕ
-sheet room rs = encodeAll rs ++ replicate (room - length (encodeAll rs)) 0
+sheet room rs = encode_all rs ++ replicate (room - length (encode_all rs)) 0
 
 -- Reading a sheet back ------------------------------------------------------------------------
 
 -- the cause of a number
 -- rule: B12
-unfoldable pub causeOf : ℕ → Cause
-causeOf n =
+unfoldable pub cause_of : ℕ → Cause
+cause_of n =
     if eqb n 1 then Worse
     else if eqb n 2 then Unpaired
     else if eqb n 3 then Executed
@@ -91,29 +91,29 @@ causeOf n =
 
 -- the record at the front of bs
 -- rule: B8
-unfoldable pub recordOf : List ℕ → Report
-recordOf bs =
-    let k = kindField bs in
-    if eqb k 64 then answer (u32_at bs 4) (u8_at bs 8) (u16At bs 9) (u8_at bs 11)
+unfoldable pub record_of : List ℕ → Report
+record_of bs =
+    let k = kind_field bs in
+    if eqb k 64 then answer (u32_at bs 4) (u8_at bs 8) (u16_at bs 9) (u8_at bs 11)
     else if eqb k 65 then trade (u8_at bs 4) (u8_at bs 5) (u32_at bs 6) (u32_at bs 10) (u32_at bs 14) (u32_at bs 18)
     else if eqb k 66 then pair (u32_at bs 4) (as_signed (u32_at bs 8)) (u32_at bs 12)
     else if eqb k 67 then generated (u32_at bs 4) (u8_at bs 8) (u8_at bs 9) (u32_at bs 10) (u32_at bs 14) (u32_at bs 18)
-    else if eqb k 68 then removed (u32_at bs 4) (u8_at bs 8) (u8_at bs 9) (causeOf (u8_at bs 10))
+    else if eqb k 68 then removed (u32_at bs 4) (u8_at bs 8) (u8_at bs 9) (cause_of (u8_at bs 10))
     else if eqb k 70 then crossed (u32_at bs 4) (u32_at bs 8) (as_signed (u32_at bs 12)) (u32_at bs 16)
     else if eqb k 71 then cancelled (u32_at bs 4) (u32_at bs 8)
     else looked (u8_at bs 4)
 
 -- the records from bs on; the fuel is the length of bs
 -- rule: R16
-unfoldable pub recordsFrom : (fuel : ℕ) → List ℕ → List Report
-recordsFrom zero bs = []
-recordsFrom (suc fuel) bs =
-    elim (eqb (lengthField bs) 0) [ true ↦ [] | false ↦ recordOf bs ∷ recordsFrom fuel (drop (lengthField bs) bs) ]
+unfoldable pub records_from : (fuel : ℕ) → List ℕ → List Report
+records_from zero bs = []
+records_from (suc fuel) bs =
+    elim (eqb (length_field bs) 0) [ true ↦ [] | false ↦ record_of bs ∷ records_from fuel (drop (length_field bs) bs) ]
 
 -- "the sheet ends at the first zero length or at the end of the report memory"
 -- rule: R16, D7
 unfoldable pub records : (memory : List ℕ) → List Report
-records memory = recordsFrom (length memory) memory
+records memory = records_from (length memory) memory
 
 -- Records whose fields fit their widths -------------------------------------------------------
 

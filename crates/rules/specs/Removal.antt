@@ -8,14 +8,14 @@ use Rattle.rules.specs.declared.Cause.{Cause}
 use Rattle.rules.specs.declared.Verdict.{Verdict}
 use Rattle.rules.specs.declared.Verdict.TheVariants.{Stands, Fails}
 use Rattle.rules.specs.Base.{if◌then◌else◌, held}
-use Rattle.rules.specs.Words.{noLegging, withLegging}
+use Rattle.rules.specs.Words.{no_legging, with_legging}
 use Rattle.rules.specs.Records.{Report, removed}
 use Rattle.rules.specs.Effects.{Effect}
 
 -- what is left at a place where l stands: l, or after a failure an empty place
 unfoldable pub stay : Verdict → (l : Legging) → Legging
 stay Stands l = l
-stay (Fails c) l = if held l.quantity then noLegging else l
+stay (Fails c) l = if held l.quantity then no_legging else l
 
 -- the record of what goes from place n, or none; place n is side n % 2 of series n / 2
 unfoldable pub goes : (place : ℕ) → Verdict → (l : Legging) → List Report
@@ -37,12 +37,12 @@ leavers f n (l ∷ ls) = goes n (f n l) l ++ leavers f (suc n) ls
 -- the legging orders that fail by f go, and their records are written
 -- rule: S5, C7
 unfoldable pub remove : (f : (place : ℕ) → Legging → Verdict) → Venue → Effect
-remove f v = record { venue = withLegging v (stayers f 0 v.legging); reports = leavers f 0 v.legging }
+remove f v = record { venue = with_legging v (stayers f 0 v.legging); reports = leavers f 0 v.legging }
 
-unfoldable pub failIf : Bool → Cause → Verdict
-failIf t c = if t then Fails c else Stands
+unfoldable pub fail_if : Bool → Cause → Verdict
+fail_if t c = if t then Fails c else Stands
 
 -- "removal of all its parent's legging orders"
 -- rule: C6
-unfoldable pub removeOf : (parent : ℕ) → Cause → Venue → Effect
-removeOf id c = remove (λ n l. failIf (eqb l.parent id) c)
+unfoldable pub remove_of : (parent : ℕ) → Cause → Venue → Effect
+remove_of id c = remove (λ n l. fail_if (eqb l.parent id) c)

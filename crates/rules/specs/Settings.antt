@@ -3,8 +3,8 @@
 use Rattle.std.specs.Prelude.{Bool, not, ◌&&◌, ◌||◌, List, [], ◌∷◌, ℕ, leb, ltb, eqb, set}
 use Rattle.rules.specs.declared.Edition.{Edition}
 use Rattle.rules.specs.declared.Venue.{Venue}
-use Rattle.rules.specs.Base.{if◌then◌else◌, held, keep, placeWhere}
-use Rattle.rules.specs.Words.{within, withEditions}
+use Rattle.rules.specs.Base.{if◌then◌else◌, held, keep, place_where}
+use Rattle.rules.specs.Words.{within, with_editions}
 
 -- Figures -------------------------------------------------------------------------------------
 
@@ -14,23 +14,23 @@ percentage = 8
 
 -- "Kind 7 carries … increment u8 (1, 5 or 10)"
 -- rule: (d)1
-unfoldable pub isIncrement : ℕ → Bool
-isIncrement x = eqb x 1 || eqb x 5 || eqb x 10
+unfoldable pub is_increment : ℕ → Bool
+is_increment x = eqb x 1 || eqb x 5 || eqb x 10
 
 -- "Kind 8 carries percent u8 (0 to 50)"
 -- rule: (d)1
-unfoldable pub isPercent : ℕ → Bool
-isPercent = within 0 50
+unfoldable pub is_percent : ℕ → Bool
+is_percent = within 0 50
 
 -- "edition u32"
 -- rule: (d)1
-unfoldable pub isEdition : ℕ → Bool
-isEdition = within 0 4294967295
+unfoldable pub is_edition : ℕ → Bool
+is_edition = within 0 4294967295
 
 -- "the old figures are edition 0, held apart from the 32": "5 in series 0 to 5, 10 in series 6 and 7", and "ACE of 5 percent"
 -- rule: W2, (d)4
-unfoldable pub baseFigure : (figure : ℕ) → ℕ
-baseFigure f = if ltb f 6 then 5 else if ltb f 8 then 10 else 5
+unfoldable pub base_figure : (figure : ℕ) → ℕ
+base_figure f = if ltb f 6 then 5 else if ltb f 8 then 10 else 5
 
 -- What is in force ----------------------------------------------------------------------------
 
@@ -39,38 +39,38 @@ unfoldable pub sets : (figure : ℕ) → Edition → Bool
 sets f e = held e.edition && eqb e.figure f
 
 -- the last value of a figure in a list of editions; x where none sets it
-unfoldable pub lastValue : (figure x : ℕ) → List Edition → ℕ
-lastValue f x [] = x
-lastValue f x (e ∷ es) = lastValue f (if sets f e then e.value else x) es
+unfoldable pub last_value : (figure x : ℕ) → List Edition → ℕ
+last_value f x [] = x
+last_value f x (e ∷ es) = last_value f (if sets f e then e.value else x) es
 
 -- "in force at any message number: of each, the last entered by a message numbered no higher"
 -- rule: (d)3
-unfoldable pub inForce : Venue → (number figure : ℕ) → ℕ
-inForce v n f = lastValue f (baseFigure f) (keep (λ e. leb e.message n) v.editions)
+unfoldable pub in_force : Venue → (number figure : ℕ) → ℕ
+in_force v n f = last_value f (base_figure f) (keep (λ e. leb e.message n) v.editions)
 
 -- "Every band and increment in the rules reads the edition in force": no edition kept has a number above that of the message at hand
 -- (`follows`), so it is the last of all that are kept
 -- rule: (d)4
-unfoldable pub figureNow : Venue → (figure : ℕ) → ℕ
-figureNow v f = lastValue f (baseFigure f) v.editions
+unfoldable pub figure_now : Venue → (figure : ℕ) → ℕ
+figure_now v f = last_value f (base_figure f) v.editions
 
 -- "its series' increment"
 -- rule: W2, (d)4
 unfoldable pub increment : Venue → (series : ℕ) → ℕ
-increment v s = figureNow v s
+increment v s = figure_now v s
 
 -- the band's percentage
 -- rule: P7, (d)4
 unfoldable pub percent : Venue → ℕ
-percent v = figureNow v percentage
+percent v = figure_now v percentage
 
 -- Editions ------------------------------------------------------------------------------------
 
 -- the first free place; past the end if all are held
-unfoldable pub freeEdition : Venue → ℕ
-freeEdition v = placeWhere (λ e. not (held e.edition)) v.editions
+unfoldable pub free_edition : Venue → ℕ
+free_edition v = place_where (λ e. not (held e.edition)) v.editions
 
 -- an edition is entered
 -- rule: (d)2
-unfoldable pub enterEdition : Edition → Venue → Venue
-enterEdition e v = withEditions v (set v.editions (freeEdition v) e)
+unfoldable pub enter_edition : Edition → Venue → Venue
+enter_edition e v = with_editions v (set v.editions (free_edition v) e)

@@ -5,36 +5,36 @@ use Rattle.rules.specs.declared.Venue.{Venue}
 use Rattle.rules.specs.declared.Message.{Message}
 use Rattle.rules.specs.declared.Message.TheVariants.{Order, TwoLeg, Cancel, Away, Status, Sweep, Increment, Percent, LimitedSweep}
 use Rattle.rules.specs.Base.{if◌then◌else◌, held}
-use Rattle.rules.specs.Words.{statusOf, listed_at, withSeries, with_last}
-use Rattle.rules.specs.Settings.{percentage, enterEdition}
-use Rattle.rules.specs.Messages.{messageOf}
+use Rattle.rules.specs.Words.{status_of, listed_at, with_series, with_last}
+use Rattle.rules.specs.Settings.{percentage, enter_edition}
+use Rattle.rules.specs.Messages.{message_of}
 use Rattle.rules.specs.Records.{answer}
 use Rattle.rules.specs.Effects.{Effect, nothing, ◌⟫◌}
 use Rattle.rules.specs.Standing.{settle}
 use Rattle.rules.specs.Order.{order}
-use Rattle.rules.specs.Complex.{complex, sweep, limitedSweep, cancel}
-use Rattle.rules.specs.Places.{closeGaps}
+use Rattle.rules.specs.Complex.{complex, sweep, limited_sweep, cancel}
+use Rattle.rules.specs.Places.{close_gaps}
 use Rattle.rules.specs.Refusals.{refusal}
 
 -- What an accepted message does ---------------------------------------------------------------
 
 -- 4 away: new away prices of the series
 -- rule: B5
-unfoldable pub setAway : (series bid offer : ℕ) → Venue → Venue
-setAway s bid offer v =
-    withSeries v (set v.series s (record { status = statusOf v s; bid = bid; offer = offer }))
+unfoldable pub set_away : (series bid offer : ℕ) → Venue → Venue
+set_away s bid offer v =
+    with_series v (set v.series s (record { status = status_of v s; bid = bid; offer = offer }))
 
 -- 5 status: a new status of the series
 -- rule: B6
-unfoldable pub setStatus : (series status : ℕ) → Venue → Venue
-setStatus s x v =
+unfoldable pub set_status : (series status : ℕ) → Venue → Venue
+set_status s x v =
     let old = listed_at v s in
-    withSeries v (set v.series s (record { status = x; bid = old.bid; offer = old.offer }))
+    with_series v (set v.series s (record { status = x; bid = old.bid; offer = old.offer }))
 
 -- 7 and 8: the edition with the number of its message; figure 0 to 7 is a series' increment
 -- rule: (d)2
-unfoldable pub setFigure : (number figure value edition : ℕ) → Venue → Venue
-setFigure number f x e v = enterEdition (record { edition = e; message = number; figure = f; value = x }) v
+unfoldable pub set_figure : (number figure value edition : ℕ) → Venue → Venue
+set_figure number f x e v = enter_edition (record { edition = e; message = number; figure = f; value = x }) v
 
 -- by kind, the message of this number; "After every accepted message all are tested"; an order's id is the last accepted from then on
 -- rule: S5, W10
@@ -42,16 +42,16 @@ unfoldable pub perform : (number : ℕ) → Message → Venue → Effect
 perform number (Order o) v = order o (with_last v o.id)
 perform number (TwoLeg c) v = complex number c (with_last v c.id)
 perform number (Cancel id) v = cancel id v
-perform number (Away s bid offer) v = settle (setAway s bid offer v)
-perform number (Status s x) v = settle (setStatus s x v)
+perform number (Away s bid offer) v = settle (set_away s bid offer v)
+perform number (Status s x) v = settle (set_status s x v)
 perform number Sweep v = sweep number v
-perform number (Increment s i e) v = settle (setFigure number s i e v)
-perform number (Percent x e) v = settle (setFigure number percentage x e v)
-perform number (LimitedSweep n) v = limitedSweep number n v
+perform number (Increment s i e) v = settle (set_figure number s i e v)
+perform number (Percent x e) v = settle (set_figure number percentage x e v)
+perform number (LimitedSweep n) v = limited_sweep number n v
 
 -- and when all is done the gaps that it left are closed
 unfoldable pub accept : (number : ℕ) → Message → Venue → Effect
-accept number m v = perform number m v ⟫ (λ w. nothing (closeGaps w))
+accept number m v = perform number m v ⟫ (λ w. nothing (close_gaps w))
 
 -- The answer ----------------------------------------------------------------------------------
 
@@ -87,4 +87,4 @@ answered number refused e = record {
 unfoldable pub step : Venue → (number : ℕ) → List ℕ → StepOutcome
 step v number bs =
     let x = refusal v bs in
-    answered number x (if eqb x 0 then accept number (messageOf bs) v else nothing v)
+    answered number x (if eqb x 0 then accept number (message_of bs) v else nothing v)

@@ -15,15 +15,15 @@ use Rattle.rules.specs.declared.Decoded.TheVariants.{Taken}
 use Rattle.rules.specs.declared.Message.{Message}
 use Rattle.rules.specs.declared.Message.TheVariants.{Order, TwoLeg, Cancel, Away, Status, Sweep}
 use Rattle.rules.specs.declared.Cause.TheVariants.{Executed, OutOfBand, NotOpen}
-use Rattle.rules.specs.Words.{buy, sell, closed, opened, noLegging, freshVenue, withLegging, withGenerations}
-use Rattle.rules.specs.Bytes.{kindField}
-use Rattle.rules.specs.Messages.{encodeMessage}
-use Rattle.rules.specs.Records.{Report, answer, trade, pair, generated, removed, crossed, cancelled, encode, encodeAll, recordOf}
+use Rattle.rules.specs.Words.{buy, sell, closed, opened, no_legging, fresh_venue, with_legging, with_generations}
+use Rattle.rules.specs.Bytes.{kind_field}
+use Rattle.rules.specs.Messages.{encode_message}
+use Rattle.rules.specs.Records.{Report, answer, trade, pair, generated, removed, crossed, cancelled, encode, encode_all, record_of}
 use Rattle.rules.specs.Records.{records, sheet}
-use Rattle.rules.specs.Prices.{inBand}
-use Rattle.rules.specs.Refusals.{decoded, in_range, offIncrement}
-use Rattle.rules.specs.Step.{setAway}
-use Rattle.rules.specs.Calls.{run, runUpon, one, settings}
+use Rattle.rules.specs.Prices.{in_band}
+use Rattle.rules.specs.Refusals.{decoded, in_range, off_increment}
+use Rattle.rules.specs.Step.{set_away}
+use Rattle.rules.specs.Calls.{run, run_upon, one, settings}
 use Rattle.rules.specs.Opened.{opened-rules}
 
 -- What is tried -------------------------------------------------------------------------------
@@ -77,15 +77,15 @@ pub open1 : (bid : ℕ) → Listed
 open1 b = record { status = opened; bid = b; offer = 0 }
 
 -- regular orders, a complex order at place i, a legging order at place n; every series is open, series 0 with an away bid
-pub legsUp : (bid : ℕ) (orders : List Regular) (i : ℕ) (c : Complex) (n : ℕ) (l : Legging) → Venue
-legsUp b os i c n l = record {
-  regular = os ++ drop (length os) freshVenue.regular;
-  complex = set freshVenue.complex i c;
-  legging = set freshVenue.legging n l;
+pub legs_up : (bid : ℕ) (orders : List Regular) (i : ℕ) (c : Complex) (n : ℕ) (l : Legging) → Venue
+legs_up b os i c n l = record {
+  regular = os ++ drop (length os) fresh_venue.regular;
+  complex = set fresh_venue.complex i c;
+  legging = set fresh_venue.legging n l;
   series = open1 b ∷ replicate 7 (open1 0);
   last = 3;
-  editions = freshVenue.editions;
-  generations = freshVenue.generations;
+  editions = fresh_venue.editions;
+  generations = fresh_venue.generations;
   reached = 0;
 }
 
@@ -111,8 +111,8 @@ both i q = record {
 }
 
 -- complex order 3 of other ratios and limits
-pub byRatios : (n : ℤ) (r q : ℕ) → Complex
-byRatios n r q = record {
+pub by_ratios : (n : ℤ) (r q : ℕ) → Complex
+by_ratios n r q = record {
   id = 3;
   series1 = 0;
   side1 = buy;
@@ -136,15 +136,15 @@ resting = rest 1 0 sell 130 15 ∷ rest 2 1 sell 90 12 ∷ []
 pub numbering : (first second : List ℕ) → Venue → Venue
 numbering ms ns v =
     let lastly : List ℕ → Generations = λ ks. record { messages = drop (length ks) (replicate 20 0) ++ ks } in
-    withGenerations v (lastly ms ∷ lastly ns ∷ drop 2 freshVenue.generations)
+    with_generations v (lastly ms ∷ lastly ns ∷ drop 2 fresh_venue.generations)
 
 -- the starred trials' offers and complex order 3 with legging orders, and such generations
 pub busy : (leggings : List Legging) (first second : List ℕ) → Venue
-busy ls ms ns = numbering ms ns (withLegging (legsUp 0 resting 0 (both 3 8) 0 noLegging) (ls ++ drop (length ls) freshVenue.legging))
+busy ls ms ns = numbering ms ns (with_legging (legs_up 0 resting 0 (both 3 8) 0 no_legging) (ls ++ drop (length ls) fresh_venue.legging))
 
 -- what `legged` leaves: complex order 3 has legging orders at 115 and 75
-pub leggedVenue : Venue
-leggedVenue = busy (leg 3 115 8 ∷ noLegging ∷ leg 3 75 8 ∷ []) (5 ∷ []) (5 ∷ [])
+pub legged_venue : Venue
+legged_venue = busy (leg 3 115 8 ∷ no_legging ∷ leg 3 75 8 ∷ []) (5 ∷ []) (5 ∷ [])
 
 pub outcome : Trial → Outcome
 outcome (session room bytes number done rs) =
@@ -154,23 +154,23 @@ outcome (upon v before room bytes number done rs w) =
     let c = one v before room bytes in
     returned c.returned.number c.returned.done c.returned.written (records c.report) c.report c.returned.venue
 outcome (next bytes rs) =
-    let c = one leggedVenue 5 100 bytes in
+    let c = one legged_venue 5 100 bytes in
     ended c.returned.number c.returned.done c.returned.written (records c.report) c.report
 outcome (onward v before room bytes number done rs w) =
-    let c = runUpon v before room bytes in
+    let c = run_upon v before room bytes in
     returned c.returned.number c.returned.done c.returned.written (records c.report) c.report c.returned.venue
-outcome (band bid offer t b) = near (inBand (setAway 1 0 offer (setAway 0 bid 0 freshVenue)) spread t)
-outcome (ranged m b) = near (in_range (kindField (encodeMessage m)) m && not (offIncrement freshVenue m))
-outcome (taken bytes m) = read (decoded bytes) (encodeMessage m)
-outcome (told r bytes) = laid (encode r) (recordOf bytes)
+outcome (band bid offer t b) = near (in_band (set_away 1 0 offer (set_away 0 bid 0 fresh_venue)) spread t)
+outcome (ranged m b) = near (in_range (kind_field (encode_message m)) m && not (off_increment fresh_venue m))
+outcome (taken bytes m) = read (decoded bytes) (encode_message m)
+outcome (told r bytes) = laid (encode r) (record_of bytes)
 outcome (counted is should) = numbered is
 outcome (inforce v n s) = figures (settings v n)
 
 pub expected : Trial → Outcome
-expected (session room bytes number done rs) = ended number done (length (encodeAll rs)) rs (sheet room rs)
-expected (upon v before room bytes number done rs w) = returned number done (length (encodeAll rs)) rs (sheet room rs) w
-expected (next bytes rs) = ended 0 1 (length (encodeAll rs)) rs (sheet 100 rs)
-expected (onward v before room bytes number done rs w) = returned number done (length (encodeAll rs)) rs (sheet room rs) w
+expected (session room bytes number done rs) = ended number done (length (encode_all rs)) rs (sheet room rs)
+expected (upon v before room bytes number done rs w) = returned number done (length (encode_all rs)) rs (sheet room rs) w
+expected (next bytes rs) = ended 0 1 (length (encode_all rs)) rs (sheet 100 rs)
+expected (onward v before room bytes number done rs w) = returned number done (length (encode_all rs)) rs (sheet room rs) w
 expected (band bid offer t b) = near b
 expected (ranged m b) = near b
 expected (taken bytes m) = read (Taken m) bytes
@@ -185,22 +185,22 @@ pub minus : ℕ → ℤ
 minus n = neg_ℤ (pos n)
 
 pub opens : (series : ℕ) → List ℕ
-opens s = encodeMessage (Status s opened)
+opens s = encode_message (Status s opened)
 
 pub closes : (series : ℕ) → List ℕ
-closes s = encodeMessage (Status s closed)
+closes s = encode_message (Status s closed)
 
 -- kind 1, and kind 9
 pub enters : (id series side price quantity : ℕ) → List ℕ
-enters id s d p q = encodeMessage (Order (rest id s d p q))
+enters id s d p q = encode_message (Order (rest id s d p q))
 
 pub reserves : (id series side price quantity display : ℕ) → List ℕ
-reserves id s d p q x = encodeMessage (Order (single id s d p q x))
+reserves id s d p q x = encode_message (Order (single id s d p q x))
 
 -- both legs of side d, in series a and b, class 1
-pub pairUp : (id a b d : ℕ) (n : ℤ) (quantity : ℕ) → List ℕ
-pairUp id a b d n q =
-    encodeMessage (TwoLeg (record {
+pub pair_up : (id a b d : ℕ) (n : ℤ) (quantity : ℕ) → List ℕ
+pair_up id a b d n q =
+    encode_message (TwoLeg (record {
       id = id;
       series1 = a;
       side1 = d;
@@ -214,14 +214,14 @@ pairUp id a b d n q =
     }))
 
 -- buy series 0 and buy series 1, class 1
-pub buysBoth : (id : ℕ) (n : ℤ) (quantity : ℕ) → List ℕ
-buysBoth id n q = pairUp id 0 1 buy n q
+pub buys_both : (id : ℕ) (n : ℤ) (quantity : ℕ) → List ℕ
+buys_both id n q = pair_up id 0 1 buy n q
 
 pub cancels : (id : ℕ) → List ℕ
-cancels id = encodeMessage (Cancel id)
+cancels id = encode_message (Cancel id)
 
 pub sweeps : List ℕ
-sweeps = encodeMessage Sweep
+sweeps = encode_message Sweep
 
 -- "Offers 130 (15) in series 0, 90 (12) in 1; buy both."
 pub opening : List ℕ
@@ -232,32 +232,32 @@ accepted n zero = []
 accepted n (suc k) = answer n 0 0 0 ∷ accepted (suc n) k
 
 -- "Away offers 60 and 40 added"
-pub awayAdded : List ℕ
-awayAdded = encodeMessage (Away 0 0 60) ++ encodeMessage (Away 1 0 40)
+pub away_added : List ℕ
+away_added = encode_message (Away 0 0 60) ++ encode_message (Away 1 0 40)
 
 -- rule: T2, T14
 pub starred : List Trial
 starred =
     -- rule: G1
     -- "N 205, 8: p 115 and 75."
-    session 200 (opening ++ buysBoth 3 (pos 205) 8) 0 5
+    session 200 (opening ++ buys_both 3 (pos 205) 8) 0 5
     (accepted 1 4 ++ (answer 5 0 5 2 ∷ generated 3 0 0 115 115 8 ∷ generated 3 1 0 75 75 8 ∷ []))
     -- rule: P4
     -- "N 203, 8: 113 shown 110, 73 shown 70."
-    ∷ session 200 (opening ++ buysBoth 3 (pos 203) 8) 0 5
+    ∷ session 200 (opening ++ buys_both 3 (pos 203) 8) 0 5
     (accepted 1 4 ++ (answer 5 0 5 2 ∷ generated 3 0 0 113 110 8 ∷ generated 3 1 0 73 70 8 ∷ []))
     -- "N 205, 20: quantities 12 and 15."
-    ∷ session 200 (opening ++ buysBoth 3 (pos 205) 20) 0 5
+    ∷ session 200 (opening ++ buys_both 3 (pos 205) 20) 0 5
     (accepted 1 4 ++ (answer 5 0 5 2 ∷ generated 3 0 0 115 115 12 ∷ generated 3 1 0 75 75 15 ∷ []))
     -- "N 220, 8: legs in, no 67."
-    ∷ session 200 (opening ++ buysBoth 3 (pos 220) 8) 0 5
+    ∷ session 200 (opening ++ buys_both 3 (pos 220) 8) 0 5
     (accepted 1 4 ++ (answer 5 0 0 0 ∷ trade 0 0 130 8 3 1 ∷ trade 1 0 90 8 3 2 ∷ pair 3 (pos 220) 8 ∷ []))
     -- rule: P5
     -- "Away offers 60 and 40 added, N 105, 8: 15 in series 0 and none in 1 (-25)."
-    ∷ session 200 (opening ++ awayAdded ++ buysBoth 3 (pos 105) 8) 0 7
+    ∷ session 200 (opening ++ away_added ++ buys_both 3 (pos 105) 8) 0 7
     (accepted 1 6 ++ (answer 7 0 1 1 ∷ generated 3 0 0 15 15 8 ∷ []))
     -- "The same with N 106: none."
-    ∷ session 200 (opening ++ awayAdded ++ buysBoth 3 (pos 106) 8) 0 7 (accepted 1 7)
+    ∷ session 200 (opening ++ away_added ++ buys_both 3 (pos 106) 8) 0 7 (accepted 1 7)
     -- rule: P7
     -- "O -200: -190 in band, -189 not."
     ∷ band 300 100 (minus 190) true
@@ -273,23 +273,23 @@ starred =
     ∷ band 100 0 (minus 1000) false
     -- rule: O1
     -- "Sell 6 at 115 to 115 regular 2 and legging 8: 2, then 4."
-    ∷ session 400 (opening ++ buysBoth 3 (pos 205) 8 ++ enters 4 0 buy 115 2 ++ enters 5 0 sell 115 6) 0 7
+    ∷ session 400 (opening ++ buys_both 3 (pos 205) 8 ++ enters 4 0 buy 115 2 ++ enters 5 0 sell 115 6) 0 7
     (accepted 1 4 ++ (answer 5 0 5 2 ∷ generated 3 0 0 115 115 8 ∷ generated 3 1 0 75 75 8 ∷ answer 6 0 5 2
     ∷ answer 7 0 0 0 ∷ trade 0 1 115 2 5 4 ∷ trade 0 1 115 4 5 3 ∷ trade 1 0 90 4 3 2 ∷ pair 3 (pos 205) 4
     ∷ removed 3 0 0 Executed ∷ removed 3 1 0 Executed ∷ []))
     -- "Empty list: no record."
     ∷ session 50 [] 0 0 []
     -- the printed session
-    ∷ session 300 (opening ++ buysBoth 3 (pos 205) 8 ++ enters 4 0 sell 115 5) 0 6
+    ∷ session 300 (opening ++ buys_both 3 (pos 205) 8 ++ enters 4 0 sell 115 5) 0 6
     (accepted 1 4 ++ (answer 5 0 5 2 ∷ generated 3 0 0 115 115 8 ∷ generated 3 1 0 75 75 8
     ∷ answer 6 0 0 0 ∷ trade 0 1 115 5 4 3 ∷ trade 1 0 90 5 3 2 ∷ pair 3 (pos 205) 5
     ∷ removed 3 0 0 Executed ∷ removed 3 1 0 Executed ∷ []))
     ∷ []
 
 -- any two legs, of a class
-pub twoLeg : (id s d t e class : ℕ) (n : ℤ) (quantity : ℕ) → List ℕ
-twoLeg id s d t e k n q =
-    encodeMessage (TwoLeg (record {
+pub two_leg : (id s d t e class : ℕ) (n : ℤ) (quantity : ℕ) → List ℕ
+two_leg id s d t e k n q =
+    encode_message (TwoLeg (record {
       id = id;
       series1 = s;
       side1 = d;
@@ -304,44 +304,44 @@ twoLeg id s d t e k n q =
 
 -- complex order 3 has legging orders at 115 and 75
 pub legged : List ℕ
-legged = opening ++ buysBoth 3 (pos 205) 8
+legged = opening ++ buys_both 3 (pos 205) 8
 
-pub leggedSheet : List Report
-leggedSheet = accepted 1 4 ++ (answer 5 0 5 2 ∷ generated 3 0 0 115 115 8 ∷ generated 3 1 0 75 75 8 ∷ [])
+pub legged_sheet : List Report
+legged_sheet = accepted 1 4 ++ (answer 5 0 5 2 ∷ generated 3 0 0 115 115 8 ∷ generated 3 1 0 75 75 8 ∷ [])
 
 -- an away market in series 0 and 1, for the band
 pub quotes : (bid0 offer0 bid1 offer1 : ℕ) → List ℕ
-quotes a b c d = opens 0 ++ opens 1 ++ encodeMessage (Away 0 a b) ++ encodeMessage (Away 1 c d)
+quotes a b c d = opens 0 ++ opens 1 ++ encode_message (Away 0 a b) ++ encode_message (Away 1 c d)
 
 -- Bids of 100 and p, then complex order 3 would buy both at 150, and complex order 4 sells both at N or better. No offers but away.
 pub bidding : (p : ℕ) (n : ℤ) → List ℕ
-bidding p n = quotes 0 101 0 51 ++ enters 1 0 buy 100 5 ++ enters 2 1 buy p 5 ++ buysBoth 3 (pos 150) 5 ++ pairUp 4 0 1 sell n 3
+bidding p n = quotes 0 101 0 51 ++ enters 1 0 buy 100 5 ++ enters 2 1 buy p 5 ++ buys_both 3 (pos 150) 5 ++ pair_up 4 0 1 sell n 3
 
 -- Complex orders 1 and 2 would buy both, at N and at 190; then offers of 100 and 90 come.
 pub asked : (n : ℤ) → List ℕ
-asked n = quotes 95 105 95 105 ++ buysBoth 1 n 5 ++ twoLeg 2 1 buy 0 buy 1 (pos 190) 5 ++ enters 3 0 sell 100 5 ++ enters 4 1 sell 90 5
+asked n = quotes 95 105 95 105 ++ buys_both 1 n 5 ++ two_leg 2 1 buy 0 buy 1 (pos 190) 5 ++ enters 3 0 sell 100 5 ++ enters 4 1 sell 90 5
 
 -- Of rules that every law and theorem leaves open, a trial each (an edit of must-fail/ is refused by it alone); the others are the crate
 -- trials'
 pub telling : List Trial
 telling =
     -- "both its series are open (else cause 6)"
-    next (encodeMessage (Status 0 0)) (answer 6 0 0 0 ∷ removed 3 0 0 NotOpen ∷ removed 3 1 0 NotOpen ∷ [])
+    next (encode_message (Status 0 0)) (answer 6 0 0 0 ∷ removed 3 0 0 NotOpen ∷ removed 3 1 0 NotOpen ∷ [])
     -- request (a), "Cause 5 now comes before cause 2": both apply at place 0, 5 alone at place 2
     ∷ next (cancels 2) (answer 6 0 0 0 ∷ cancelled 2 12 ∷ removed 3 0 0 OutOfBand ∷ removed 3 1 0 OutOfBand ∷ [])
     -- "at equal price by class 1 while this is class 0": not by class 0
-    ∷ session 200 (opening ++ twoLeg 3 0 buy 1 buy 0 (pos 205) 8 ++ twoLeg 4 0 buy 1 buy 0 (pos 205) 9) 0 6
-    (leggedSheet ++ (answer 6 0 5 2 ∷ []))
+    ∷ session 200 (opening ++ two_leg 3 0 buy 1 buy 0 (pos 205) 8 ++ two_leg 4 0 buy 1 buy 0 (pos 205) 9) 0 6
+    (legged_sheet ++ (answer 6 0 5 2 ∷ []))
     -- a party's net is the one dealt at, not its limit: -150 is what the bids give the taker, whose limit is -140; equal is not above
     ∷ session 200 (bidding 50 (minus 140)) 0 8 (accepted 1 8 ++ (crossed 4 3 (minus 150) 3 ∷ []))
     -- of equal limits the earliest crosses first
-    ∷ session 200 (asked (pos 190) ++ pairUp 5 0 1 sell (minus 185) 3) 0 9 (accepted 1 9 ++ (crossed 5 1 (minus 190) 3 ∷ []))
+    ∷ session 200 (asked (pos 190) ++ pair_up 5 0 1 sell (minus 185) 3) 0 9 (accepted 1 9 ++ (crossed 5 1 (minus 190) 3 ∷ []))
     ∷ []
 
 -- `unfolding tried` opens every trial, as `opened-rules` does every definition
 unfoldable pub tried : Unit {0}
-unfolding outcome expected spread open1 legsUp single rest both byRatios leg resting numbering busy leggedVenue minus opens closes enters
-    reserves pairUp buysBoth cancels sweeps opening accepted awayAdded starred twoLeg legged leggedSheet quotes bidding asked telling
+unfolding outcome expected spread open1 legs_up single rest both by_ratios leg resting numbering busy legged_venue minus opens closes enters
+    reserves pair_up buys_both cancels sweeps opening accepted away_added starred two_leg legged legged_sheet quotes bidding asked telling
 tried = tt
 
 pub starred-hold : map outcome starred ≡ map expected starred

@@ -9,27 +9,27 @@ use lib.ListN.{length, drop}
 use lib.Seq.{drop-drop}
 use borrow.Author.Tests.{eqb-true, eqb-false, eq-eqb, ne_eqb}
 use Rattle.rules.specs.Base.{if◌then◌else◌}
-use Rattle.rules.specs.Bytes.{kindField, u8_at, u32_at}
-use Rattle.rules.specs.Bytes.{u16At, lengthField}
+use Rattle.rules.specs.Bytes.{kind_field, u8_at, u32_at}
+use Rattle.rules.specs.Bytes.{u16_at, length_field}
 use Rattle.rules.specs.Messages.{length_of}
 use Rattle.rules.specs.Refusals.{torn}
 use Rattle.rules.proofs.RefusalsLaws.{whole}
 use Rattle.wire.proofs.Numbers.{u16-here}
 use Rattle.reader.specs.declared.Head.TheVariants.{End, Torn, Message}
 use Rattle.sets.proofs.Rows.{Well}
-use Rattle.reader.specs.Head.{head_of, headAt, headLength}
+use Rattle.reader.specs.Head.{head_of, head_at, head_length}
 use Rattle.set_check.specs.declared.Front.{Front}
 use Rattle.set_check.specs.declared.Front.TheVariants.{Broken, Record}
 use Rattle.set_check.specs.declared.Front.TheVariants as F
-use Rattle.set_check.specs.Order.{frontOf}
-use Rattle.sets.specs.Set.{setLength, part, sortKey, tellsEdition, tellsRegular, tellsComplex, tellsLegging, tellsGeneration, ofWhole, ofShort}
+use Rattle.set_check.specs.Order.{front_of}
+use Rattle.sets.specs.Set.{set_length, part, sort_key, tells_edition, tells_regular, tells_complex, tells_legging, tells_generation, of_whole, of_short}
 
 -- Lengths -------------------------------------------------------------------------------------
 
 module _ (k : ℕ) where
   -- kinds whose record is the message
-  pub length-same : k ≤ 10 → (k ≡ 3 → ⊥) → (k ≡ 6 → ⊥) → (k ≡ 7 → ⊥) → (k ≡ 8 → ⊥) → length_of k ≡ setLength k
-  unfolding length_of setLength
+  pub length-same : k ≤ 10 → (k ≡ 3 → ⊥) → (k ≡ 6 → ⊥) → (k ≡ 7 → ⊥) → (k ≡ 8 → ⊥) → length_of k ≡ set_length k
+  unfolding length_of set_length
   length-same h a b c d =
       simp (
         ne_eqb k 3 a,
@@ -45,8 +45,8 @@ module _ (k : ℕ) where
       )
 
   -- what is none of the set's
-  pub length_none : 10 < k → (k ≡ 80 → ⊥) → (k ≡ 81 → ⊥) → (k ≡ 82 → ⊥) → (k ≡ 83 → ⊥) → (k ≡ 84 → ⊥) → 0 ≡ setLength k
-  unfolding setLength
+  pub length_none : 10 < k → (k ≡ 80 → ⊥) → (k ≡ 81 → ⊥) → (k ≡ 82 → ⊥) → (k ≡ 83 → ⊥) → (k ≡ 84 → ⊥) → 0 ≡ set_length k
+  unfolding set_length
   length_none h a b c d e =
       simp (
         ne_eqb k 1 (λ z. omega arith),
@@ -64,10 +64,10 @@ module _ (k : ℕ) where
         ne_eqb k 84 e,
       )
 
-  pub length-first : (t : Bool) → eqb k 80 ≡ t → 80 ≤ k → k ≤ 81 → 12 ≡ setLength k
-  unfolding setLength
-  length-first true e h l = let z : k ≡ 80 = eqb-true k 80 e in sym (ap setLength z)
-  length-first false e h l = let n = eqb-false k 80 e in let z : k ≡ 81 = omega arith in sym (ap setLength z)
+  pub length-first : (t : Bool) → eqb k 80 ≡ t → 80 ≤ k → k ≤ 81 → 12 ≡ set_length k
+  unfolding set_length
+  length-first true e h l = let z : k ≡ 80 = eqb-true k 80 e in sym (ap set_length z)
+  length-first false e h l = let n = eqb-false k 80 e in let z : k ≡ 81 = omega arith in sym (ap set_length z)
 
 -- One of two kinds -----------------------------------------------------------------------------
 
@@ -85,71 +85,71 @@ unfolding torn
 empty-torn bs e = rw e
 
 module _ (bs : List ℕ) where
-  pub front-ended : lengthField bs ≡ 0 → F.End ≡ frontOf bs
-  unfolding frontOf
-  front-ended e = rw (eq-eqb (lengthField bs) 0 e)
+  pub front-ended : length_field bs ≡ 0 → F.End ≡ front_of bs
+  unfolding front_of
+  front-ended e = rw (eq-eqb (length_field bs) 0 e)
 
-  module _ (some : lengthField bs ≡ 0 → ⊥) where
-    front-torn : torn bs ≡ true → Broken ≡ frontOf bs
-    unfolding frontOf
-    front-torn t = rw (ne_eqb (lengthField bs) 0 some, t)
+  module _ (some : length_field bs ≡ 0 → ⊥) where
+    front-torn : torn bs ≡ true → Broken ≡ front_of bs
+    unfolding front_of
+    front-torn t = rw (ne_eqb (length_field bs) 0 some, t)
 
-    pub front-no-head : headLength (head_of bs) ≡ 0 → Broken ≡ frontOf bs
+    pub front-no-head : head_length (head_of bs) ≡ 0 → Broken ≡ front_of bs
     unfolding head_of
     front-no-head = go (eqb (length bs) 0) (torn bs) refl refl
       where
-        go : (z t : Bool) → eqb (length bs) 0 ≡ z → torn bs ≡ t → headLength (if z then End else if t then Torn else Message (lengthField bs)) ≡ 0 → Broken ≡ frontOf bs
+        go : (z t : Bool) → eqb (length bs) 0 ≡ z → torn bs ≡ t → head_length (if z then End else if t then Torn else Message (length_field bs)) ≡ 0 → Broken ≡ front_of bs
         go true t e f h = front-torn (empty-torn bs (eqb-true (length bs) 0 e))
         go false true e f h = front-torn f
         go false false e f h = absurd (some h)
 
   pub record Whole (n : ℕ) : Type 0 where
-    pub here : n ≡ lengthField bs
+    pub here : n ≡ length_field bs
     pub four : 4 ≤ n
     pub fits : n ≤ length bs
     pub untorn : torn bs ≡ false
 
-  pub front-head : (n : ℕ) → n ≡ headLength (head_of bs) → (n ≡ 0 → ⊥) → Whole n
+  pub front-head : (n : ℕ) → n ≡ head_length (head_of bs) → (n ≡ 0 → ⊥) → Whole n
   unfolding head_of
   front-head n = go (eqb (length bs) 0) (torn bs) refl
     where
-      go : (z t : Bool) → torn bs ≡ t → n ≡ headLength (if z then End else if t then Torn else Message (lengthField bs)) → (n ≡ 0 → ⊥) → Whole n
+      go : (z t : Bool) → torn bs ≡ t → n ≡ head_length (if z then End else if t then Torn else Message (length_field bs)) → (n ≡ 0 → ⊥) → Whole n
       go true t f h s = absurd (s h)
       go false true f h s = absurd (s h)
       go false false f h s = let w = whole bs f in let a = w.0 in let b = w.1 in record { here = h; four = omega arith; fits = omega arith; untorn = f }
 
-  module _ (n : ℕ) (w : Whole n) (k : ℕ) (e : k ≡ setLength (kindField bs)) where
-    pub front-other : (n ≡ k → ⊥) → Broken ≡ frontOf bs
-    unfolding frontOf
-    front-other d = let a = w.here in let b = w.four in rw (ne_eqb (lengthField bs) 0 (λ z. omega arith), w.untorn, ← e, ← w.here, ne_eqb n k d)
+  module _ (n : ℕ) (w : Whole n) (k : ℕ) (e : k ≡ set_length (kind_field bs)) where
+    pub front-other : (n ≡ k → ⊥) → Broken ≡ front_of bs
+    unfolding front_of
+    front-other d = let a = w.here in let b = w.four in rw (ne_eqb (length_field bs) 0 (λ z. omega arith), w.untorn, ← e, ← w.here, ne_eqb n k d)
 
-    pub front-record : n ≡ k → Record n ≡ frontOf bs
-    unfolding frontOf
-    front-record d = let a = w.here in let b = w.four in rw (ne_eqb (lengthField bs) 0 (λ z. omega arith), w.untorn, ← e, ← w.here, eq-eqb n k d)
+    pub front-record : n ≡ k → Record n ≡ front_of bs
+    unfolding front_of
+    front-record d = let a = w.here in let b = w.four in rw (ne_eqb (length_field bs) 0 (λ z. omega arith), w.untorn, ← e, ← w.here, eq-eqb n k d)
 
 -- at a position
 module _ (m : List ℕ) (at : ℕ) where
-  pub length-here : lengthField (drop at m) ≡ u16At m at
-  unfolding lengthField
+  pub length-here : length_field (drop at m) ≡ u16_at m at
+  unfolding length_field
   length-here = sym (u16-here at m)
 
-  pub kind-here : kindField (drop at m) ≡ u16At m (at + 2)
-  unfolding kindField
-  kind-here = u16-here 2 (drop at m) ∙ ap (λ (l : List ℕ). u16At l 0) (drop-drop 2 at m) ∙ sym (u16-here (at + 2) m)
+  pub kind-here : kind_field (drop at m) ≡ u16_at m (at + 2)
+  unfolding kind_field
+  kind-here = u16-here 2 (drop at m) ∙ ap (λ (l : List ℕ). u16_at l 0) (drop-drop 2 at m) ∙ sym (u16-here (at + 2) m)
 
 -- the records of orders are long enough for their fields
-pub regular-long : (r : List ℕ) → Well r → tellsRegular r ≡ true → 18 ≤ length r
-unfolding tellsRegular setLength
-regular-long r w t = go (eqb (kindField r) 1) refl t
+pub regular-long : (r : List ℕ) → Well r → tells_regular r ≡ true → 18 ≤ length r
+unfolding tells_regular set_length
+regular-long r w t = go (eqb (kind_field r) 1) refl t
   where
-    go : (b : Bool) → eqb (kindField r) 1 ≡ b → (b || eqb (kindField r) 9) ≡ true → 18 ≤ length r
-    go true e h = let k : 18 ≡ length r = sym (ap setLength (eqb-true (kindField r) 1 e)) ∙ w.known in omega arith
-    go false e h = let k : 22 ≡ length r = sym (ap setLength (eqb-true (kindField r) 9 h)) ∙ w.known in omega arith
+    go : (b : Bool) → eqb (kind_field r) 1 ≡ b → (b || eqb (kind_field r) 9) ≡ true → 18 ≤ length r
+    go true e h = let k : 18 ≡ length r = sym (ap set_length (eqb-true (kind_field r) 1 e)) ∙ w.known in omega arith
+    go false e h = let k : 22 ≡ length r = sym (ap set_length (eqb-true (kind_field r) 9 h)) ∙ w.known in omega arith
 
-pub complex-long : (r : List ℕ) → Well r → tellsComplex r ≡ true → 21 ≤ length r
-unfolding tellsComplex setLength
-complex-long r w t = go (eqb (kindField r) 2) refl t
+pub complex-long : (r : List ℕ) → Well r → tells_complex r ≡ true → 21 ≤ length r
+unfolding tells_complex set_length
+complex-long r w t = go (eqb (kind_field r) 2) refl t
   where
-    go : (b : Bool) → eqb (kindField r) 2 ≡ b → (b || eqb (kindField r) 10) ≡ true → 21 ≤ length r
-    go true e h = let k : 21 ≡ length r = sym (ap setLength (eqb-true (kindField r) 2 e)) ∙ w.known in omega arith
-    go false e h = let k : 23 ≡ length r = sym (ap setLength (eqb-true (kindField r) 10 h)) ∙ w.known in omega arith
+    go : (b : Bool) → eqb (kind_field r) 2 ≡ b → (b || eqb (kind_field r) 10) ≡ true → 21 ≤ length r
+    go true e h = let k : 21 ≡ length r = sym (ap set_length (eqb-true (kind_field r) 2 e)) ∙ w.known in omega arith
+    go false e h = let k : 23 ≡ length r = sym (ap set_length (eqb-true (kind_field r) 10 h)) ∙ w.known in omega arith

@@ -1,9 +1,9 @@
 -- Document 02 (h): a set's records in one pass, each checked against the records before it: its order, the counts, and a place for its fields.
 use Rattle.std.specs.Prelude.{Bool, true, false, not, ◌&&◌, ◌||◌, List, [], ◌∷◌, ℕ, ◌+◌, ◌-◌, ◌/◌, ◌%◌, leb, ltb, eqb, length}
 use Rattle.rules.specs.Base.{if◌then◌else◌, all}
-use Rattle.rules.specs.Bytes.{u8_at, lengthField, kindField}
+use Rattle.rules.specs.Bytes.{u8_at, length_field, kind_field}
 use Rattle.rules.specs.Refusals.{torn}
-use Rattle.sets.specs.Set.{Held, broken, row, setLength, part, sortKey, generationTold, tellsEdition, tellsRegular, tellsComplex, tellsLegging, tellsGeneration, ofWhole, ofShort, hasPlace}
+use Rattle.sets.specs.Set.{Held, broken, row, set_length, part, sort_key, generation_told, tells_edition, tells_regular, tells_complex, tells_legging, tells_generation, of_whole, of_short, has_place}
 use Rattle.set_check.specs.declared.Front.{Front}
 use Rattle.set_check.specs.declared.Front.TheVariants.{End, Broken, Record}
 use Rattle.set_check.specs.declared.SetProgress.{SetProgress}
@@ -11,11 +11,11 @@ use Rattle.set_check.specs.declared.SetProgress.{SetProgress}
 -- Frames --------------------------------------------------------------------------------------
 
 -- what stands at the front of the bytes left: the end of the set; bytes that are torn or of a kind or length that no set has; or a record of this length
-unfoldable pub frontOf : List ℕ → Front
-frontOf bs =
-    if eqb (lengthField bs) 0 then End
-    else if torn bs || not (eqb (lengthField bs) (setLength (kindField bs))) then Broken
-    else Record (lengthField bs)
+unfoldable pub front_of : List ℕ → Front
+front_of bs =
+    if eqb (length_field bs) 0 then End
+    else if torn bs || not (eqb (length_field bs) (set_length (kind_field bs))) then Broken
+    else Record (length_field bs)
 
 -- Order ---------------------------------------------------------------------------------------
 
@@ -24,8 +24,8 @@ abbrev pub opening : ℕ
 opening = 17
 
 -- nothing read yet
-unfoldable pub noneRead : SetProgress
-noneRead = record {
+unfoldable pub none_read : SetProgress
+none_read = record {
   opened = 0;
   whole = false;
   part = 0;
@@ -42,55 +42,55 @@ noneRead = record {
 -- one of the first records: of kind 80 or 81, and then of kinds 5 and 4 for each series in turn
 unfoldable pub opens : SetProgress → List ℕ → Bool
 opens st r =
-    if eqb st.opened 0 then eqb (kindField r) 80 || eqb (kindField r) 81
-    else eqb (kindField r) (4 + st.opened % 2) && eqb (u8_at r 4) ((st.opened - 1) / 2)
+    if eqb st.opened 0 then eqb (kind_field r) 80 || eqb (kind_field r) 81
+    else eqb (kind_field r) (4 + st.opened % 2) && eqb (u8_at r 4) ((st.opened - 1) / 2)
 
 -- a record after them is of a kind that this set has
-unfoldable pub ofThis : SetProgress → List ℕ → Bool
-ofThis st r = if st.whole then ofWhole r else ofShort r
+unfoldable pub of_this : SetProgress → List ℕ → Bool
+of_this st r = if st.whole then of_whole r else of_short r
 
 -- generations of one series
-unfoldable pub sameSeries : SetProgress → List ℕ → Bool
-sameSeries st r = eqb st.part 4 && eqb st.key (sortKey r)
+unfoldable pub same_series : SetProgress → List ℕ → Bool
+same_series st r = eqb st.part 4 && eqb st.key (sort_key r)
 
 -- it may stand after the record before it
-unfoldable pub mayStand : SetProgress → List ℕ → Bool
-mayStand st r = ltb st.part (part r) || (eqb st.part (part r) && (ltb st.key (sortKey r) || (sameSeries st r && leb st.told (generationTold r))))
+unfoldable pub may_stand : SetProgress → List ℕ → Bool
+may_stand st r = ltb st.part (part r) || (eqb st.part (part r) && (ltb st.key (sort_key r) || (same_series st r && leb st.told (generation_told r))))
 
-unfoldable pub isNext : SetProgress → List ℕ → Bool
-isNext st r = if ltb st.opened opening then opens st r else (ofThis st r && mayStand st r)
+unfoldable pub is_next : SetProgress → List ℕ → Bool
+is_next st r = if ltb st.opened opening then opens st r else (of_this st r && may_stand st r)
 
 -- 1 for true, 0 for false
-unfoldable pub oneIf : Bool → ℕ
-oneIf true = 1
-oneIf false = 0
+unfoldable pub one_if : Bool → ℕ
+one_if true = 1
+one_if false = 0
 
 -- how many of the first records were read, with this one
-unfoldable pub openedAfter : SetProgress → ℕ
-openedAfter st = if ltb st.opened opening then st.opened + 1 else st.opened
+unfoldable pub opened_after : SetProgress → ℕ
+opened_after st = if ltb st.opened opening then st.opened + 1 else st.opened
 
 -- whether the set is a whole one: its first record says so
 unfoldable pub is_whole : SetProgress → List ℕ → Bool
-is_whole st r = if eqb st.opened 0 then eqb (kindField r) 80 else st.whole
+is_whole st r = if eqb st.opened 0 then eqb (kind_field r) 80 else st.whole
 
 -- how many generations of one series there are in a row, with this record
-unfoldable pub runWith : SetProgress → List ℕ → ℕ
-runWith st r = if sameSeries st r then st.run + oneIf (tellsGeneration r) else oneIf (tellsGeneration r)
+unfoldable pub run_with : SetProgress → List ℕ → ℕ
+run_with st r = if same_series st r then st.run + one_if (tells_generation r) else one_if (tells_generation r)
 
 -- where the check stands after one more record
 unfoldable pub onward : SetProgress → List ℕ → SetProgress
 onward st r = record {
-  opened = openedAfter st;
+  opened = opened_after st;
   whole = is_whole st r;
   part = part r;
-  key = sortKey r;
-  told = generationTold r;
-  editions = st.editions + oneIf (tellsEdition r);
-  regulars = st.regulars + oneIf (tellsRegular r);
-  complexes = st.complexes + oneIf (tellsComplex r);
-  leggings = st.leggings + oneIf (tellsLegging r);
-  run = runWith st r;
-  placed = st.placed && hasPlace r;
+  key = sort_key r;
+  told = generation_told r;
+  editions = st.editions + one_if (tells_edition r);
+  regulars = st.regulars + one_if (tells_regular r);
+  complexes = st.complexes + one_if (tells_complex r);
+  leggings = st.leggings + one_if (tells_legging r);
+  run = run_with st r;
+  placed = st.placed && has_place r;
 }
 
 -- none is one too many
@@ -98,11 +98,11 @@ unfoldable pub few : SetProgress → Bool
 few st = leb st.editions 32 && leb st.regulars 128 && leb st.complexes 32 && leb st.leggings 16 && leb st.run 20
 
 -- from where the check stands, the records are those of a set, to its end
-unfoldable pub goesOn : SetProgress → List (List ℕ) → Bool
-goesOn st [] = not (ltb st.opened opening)
-goesOn st (r ∷ rs) = isNext st r && few (onward st r) && goesOn (onward st r) rs
+unfoldable pub goes_on : SetProgress → List (List ℕ) → Bool
+goes_on st [] = not (ltb st.opened opening)
+goes_on st (r ∷ rs) = is_next st r && few (onward st r) && goes_on (onward st r) rs
 
 -- 0, 16 or 9 from where the check stands: "16 comes before 9"
-unfoldable pub lookedAt : SetProgress → Held → ℕ
-lookedAt st broken = 16
-lookedAt st (row rs) = if goesOn st rs then (if st.placed && all hasPlace rs then 0 else 9) else 16
+unfoldable pub looked_at : SetProgress → Held → ℕ
+looked_at st broken = 16
+looked_at st (row rs) = if goes_on st rs then (if st.placed && all has_place rs then 0 else 9) else 16

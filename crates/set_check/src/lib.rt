@@ -1,11 +1,11 @@
 // Checks the records of a set (document 02 (h), crate sets) in one pass: their order, how many there are, and that a venue has a place for each.
 ghost use Rattle.std.specs.Prelude.{◌≡◌, true, not, ◌&&◌, [], ◌≤◌, ◌<◌, eqb, drop};
 ghost use Rattle.rules.specs.Base.{held};
-ghost use Rattle.rules.specs.Words.{placeOf, isSeries, isSide, oneToOne};
-ghost use Rattle.rules.specs.Bytes.{u8_at, u32_at, kindField};
-ghost use Rattle.sets.specs.Set.{setLength, part, sortKey, generationTold, tellsEdition, tellsRegular, tellsComplex, tellsLegging, tellsGeneration, ofWhole, ofShort, hasPlace, complexTold};
-ghost use Rattle.sets.specs.Set.{row, heldIn};
-ghost use Rattle.set_check.specs.Order.{frontOf, noneRead, opens, ofThis, sameSeries, mayStand, isNext, oneIf, openedAfter, is_whole, runWith, onward, few, lookedAt};
+ghost use Rattle.rules.specs.Words.{place_of, is_series, is_side, one_to_one};
+ghost use Rattle.rules.specs.Bytes.{u8_at, u32_at, kind_field};
+ghost use Rattle.sets.specs.Set.{set_length, part, sort_key, generation_told, tells_edition, tells_regular, tells_complex, tells_legging, tells_generation, of_whole, of_short, has_place, complex_told};
+ghost use Rattle.sets.specs.Set.{row, held_in};
+ghost use Rattle.set_check.specs.Order.{front_of, none_read, opens, of_this, same_series, may_stand, is_next, one_if, opened_after, is_whole, run_with, onward, few, looked_at};
 
 // Records -------------------------------------------------------------------------------------
 
@@ -20,7 +20,7 @@ pub enum Front {
 // The length of a record of kind 0 to 10; 0 for a kind that no set has. A setting has its message number after it. It compares in order, as `length_of` does.
 fn early_length(kind: u16) -> u16
     requires { kind ≤ 10 }
-    ensures { result ≡ setLength kind }
+    ensures { result ≡ set_length kind }
 {
     if kind <= 2 {
         return arithmetic::length_of(kind);
@@ -45,7 +45,7 @@ fn early_length(kind: u16) -> u16
 
 // The length of each kind of record; 0 for a kind that no set has.
 fn set_length(kind: u16) -> u16
-    ensures { result ≡ setLength kind }
+    ensures { result ≡ set_length kind }
 {
     if kind <= 10 {
         return early_length(kind);
@@ -70,7 +70,7 @@ fn set_length(kind: u16) -> u16
 
 // What stands at a position of a memory.
 fn front_at(memory: &[u8], at: usize) -> Front
-    ensures { result ≡ frontOf (drop at memory.now) }
+    ensures { result ≡ front_of (drop at memory.now) }
 {
     if wire::u16_at(memory, at) == 0 {
         return Front::End;
@@ -87,14 +87,14 @@ fn front_at(memory: &[u8], at: usize) -> Front
 
 // The kind of a record.
 pub fn kind_of(r: &[u8]) -> u16
-    ensures { result ≡ kindField r.now }
+    ensures { result ≡ kind_field r.now }
 {
     wire::u16_at(r, 2)
 }
 
 // A record has an edition: it is of kind 7 or 8.
 pub fn tells_edition(r: &[u8]) -> bool
-    ensures { result ≡ tellsEdition r.now }
+    ensures { result ≡ tells_edition r.now }
 {
     let kind = kind_of(r);
     if kind == 7 {
@@ -105,7 +105,7 @@ pub fn tells_edition(r: &[u8]) -> bool
 
 // A record has a resting regular order: it is of kind 1 or 9.
 pub fn tells_regular(r: &[u8]) -> bool
-    ensures { result ≡ tellsRegular r.now }
+    ensures { result ≡ tells_regular r.now }
 {
     let kind = kind_of(r);
     if kind == 1 {
@@ -116,7 +116,7 @@ pub fn tells_regular(r: &[u8]) -> bool
 
 // A record has a resting complex order: it is of kind 2 or 10.
 pub fn tells_complex(r: &[u8]) -> bool
-    ensures { result ≡ tellsComplex r.now }
+    ensures { result ≡ tells_complex r.now }
 {
     let kind = kind_of(r);
     if kind == 2 {
@@ -127,14 +127,14 @@ pub fn tells_complex(r: &[u8]) -> bool
 
 // A record has a legging order: it is of kind 82.
 pub fn tells_legging(r: &[u8]) -> bool
-    ensures { result ≡ tellsLegging r.now }
+    ensures { result ≡ tells_legging r.now }
 {
     kind_of(r) == 82
 }
 
 // A record has a generation: it is of kind 83.
 pub fn tells_generation(r: &[u8]) -> bool
-    ensures { result ≡ tellsGeneration r.now }
+    ensures { result ≡ tells_generation r.now }
 {
     kind_of(r) == 83
 }
@@ -175,7 +175,7 @@ fn wide(x: u8) -> u32
 
 // The place of the legging order in a record.
 pub fn place_of(r: &[u8]) -> u32
-    ensures { result ≡ placeOf (u8_at r.now 8) (u8_at r.now 9) }
+    ensures { result ≡ place_of (u8_at r.now 8) (u8_at r.now 9) }
 {
     let series = wide(wire::u8_at(r, 8));
     let side = wide(wire::u8_at(r, 9));
@@ -184,7 +184,7 @@ pub fn place_of(r: &[u8]) -> u32
 
 // The number by which the records of a part rise: edition, id or place; for generations the series.
 fn sort_key(r: &[u8]) -> u32
-    ensures { result ≡ sortKey r.now }
+    ensures { result ≡ sort_key r.now }
 {
     let kind = kind_of(r);
     if kind == 7 {
@@ -208,7 +208,7 @@ fn sort_key(r: &[u8]) -> u32
 
 // The message number in a generation's record.
 pub fn told_of(r: &[u8]) -> u32
-    ensures { result ≡ generationTold r.now }
+    ensures { result ≡ generation_told r.now }
 {
     wire::u32_at(r, 5)
 }
@@ -232,7 +232,7 @@ pub struct SetProgress {
 
 // Where the check stands before the first record.
 fn none_read() -> SetProgress
-    ensures { result ≡ noneRead }
+    ensures { result ≡ none_read }
 {
     SetProgress {
         opened: 0,
@@ -270,7 +270,7 @@ fn is_opening(st: SetProgress, r: &[u8]) -> bool
 
 // A record that a whole set can have after its first 17.
 fn of_whole(r: &[u8]) -> bool
-    ensures { result ≡ ofWhole r.now }
+    ensures { result ≡ of_whole r.now }
 {
     if part_of(r) == 0 {
         return false;
@@ -280,7 +280,7 @@ fn of_whole(r: &[u8]) -> bool
 
 // A record that a short set can have after its first 17.
 fn of_short(r: &[u8]) -> bool
-    ensures { result ≡ ofShort r.now }
+    ensures { result ≡ of_short r.now }
 {
     let part = part_of(r);
     if part == 3 {
@@ -294,7 +294,7 @@ fn of_short(r: &[u8]) -> bool
 
 // A record that this set, whole or short, can have after its first 17.
 fn of_this(st: SetProgress, r: &[u8]) -> bool
-    ensures { result ≡ ofThis st r.now }
+    ensures { result ≡ of_this st r.now }
 {
     if st.whole {
         return of_whole(r);
@@ -304,7 +304,7 @@ fn of_this(st: SetProgress, r: &[u8]) -> bool
 
 // The record before is a generation, and this record has the same sort key: a generation of the same series.
 fn same_series(st: SetProgress, r: &[u8]) -> bool
-    ensures { result ≡ sameSeries st r.now }
+    ensures { result ≡ same_series st r.now }
 {
     if st.part != 4 {
         return false;
@@ -314,7 +314,7 @@ fn same_series(st: SetProgress, r: &[u8]) -> bool
 
 // A record may stand after the one before it.
 fn may_stand(st: SetProgress, r: &[u8]) -> bool
-    ensures { result ≡ mayStand st r.now }
+    ensures { result ≡ may_stand st r.now }
 {
     let part = part_of(r);
     if st.part < part {
@@ -334,7 +334,7 @@ fn may_stand(st: SetProgress, r: &[u8]) -> bool
 
 // A record may come next.
 fn is_next(st: SetProgress, r: &[u8]) -> bool
-    ensures { result ≡ isNext st r.now }
+    ensures { result ≡ is_next st r.now }
 {
     if st.opened < 17 {
         return is_opening(st, r);
@@ -349,7 +349,7 @@ fn is_next(st: SetProgress, r: &[u8]) -> bool
 
 // A venue has a place for what a record of kind 7 has.
 fn increment_placed(r: &[u8]) -> bool
-    ensures { result ≡ (isSeries (u8_at r.now 4) && held (u32_at r.now 6)) }
+    ensures { result ≡ (is_series (u8_at r.now 4) && held (u32_at r.now 6)) }
 {
     if 7 < wire::u8_at(r, 4) {
         return false;
@@ -359,7 +359,7 @@ fn increment_placed(r: &[u8]) -> bool
 
 // A venue has a place for what a record of kind 2 or 10 has.
 fn complex_placed(r: &[u8]) -> bool
-    ensures { result ≡ (held (u32_at r.now 17) && not (eqb (kindField r.now) 10 && oneToOne (complexTold r.now))) }
+    ensures { result ≡ (held (u32_at r.now 17) && not (eqb (kind_field r.now) 10 && one_to_one (complex_told r.now))) }
 {
     if wire::u32_at(r, 17) == 0 {
         return false;
@@ -375,7 +375,7 @@ fn complex_placed(r: &[u8]) -> bool
 
 // A venue has a place for what a record of kind 82 has.
 fn legging_placed(r: &[u8]) -> bool
-    ensures { result ≡ (isSeries (u8_at r.now 8) && isSide (u8_at r.now 9) && held (u32_at r.now 14)) }
+    ensures { result ≡ (is_series (u8_at r.now 8) && is_side (u8_at r.now 9) && held (u32_at r.now 14)) }
 {
     if 7 < wire::u8_at(r, 8) {
         return false;
@@ -388,7 +388,7 @@ fn legging_placed(r: &[u8]) -> bool
 
 // A venue has a place for what a record of kind 83 has.
 fn generation_placed(r: &[u8]) -> bool
-    ensures { result ≡ (isSeries (u8_at r.now 4) && held (u32_at r.now 5)) }
+    ensures { result ≡ (is_series (u8_at r.now 4) && held (u32_at r.now 5)) }
 {
     if 7 < wire::u8_at(r, 4) {
         return false;
@@ -398,7 +398,7 @@ fn generation_placed(r: &[u8]) -> bool
 
 // A venue has a place for what a record has.
 fn has_place(r: &[u8]) -> bool
-    ensures { result ≡ hasPlace r.now }
+    ensures { result ≡ has_place r.now }
 {
     let kind = kind_of(r);
     if kind == 7 {
@@ -429,7 +429,7 @@ fn has_place(r: &[u8]) -> bool
 
 // 1 for true, 0 for false.
 fn one_if(b: bool) -> u8
-    ensures { (result ≡ oneIf b) × (result ≤ 1) }
+    ensures { (result ≡ one_if b) × (result ≤ 1) }
 {
     if b {
         return 1;
@@ -439,7 +439,7 @@ fn one_if(b: bool) -> u8
 
 // How many of the first records are read after one more record.
 fn opened_after(st: SetProgress) -> u8
-    ensures { result ≡ openedAfter st }
+    ensures { result ≡ opened_after st }
 {
     let opened = st.opened;
     if opened < 17 {
@@ -461,7 +461,7 @@ fn is_whole(st: SetProgress, r: &[u8]) -> bool
 // How many generations of one series there are in a row, with this record.
 fn run_with(st: SetProgress, r: &[u8]) -> u8
     requires { few st ≡ true }
-    ensures { result ≡ runWith st r.now }
+    ensures { result ≡ run_with st r.now }
 {
     let more = one_if(tells_generation(r));
     if same_series(st, r) {
@@ -472,7 +472,7 @@ fn run_with(st: SetProgress, r: &[u8]) -> u8
 
 // This record and every record before it has a place.
 fn still_placed(st: SetProgress, r: &[u8]) -> bool
-    ensures { result ≡ (st.placed && hasPlace r.now) }
+    ensures { result ≡ (st.placed && has_place r.now) }
 {
     if !st.placed {
         return false;
@@ -521,7 +521,7 @@ fn are_few(st: SetProgress) -> bool
 
 // What the check returns where the set ends.
 fn ended(st: SetProgress) -> u8
-    ensures { result ≡ lookedAt st (row []) }
+    ensures { result ≡ looked_at st (row []) }
 {
     if st.opened < 17 {
         return 16;
@@ -534,7 +534,7 @@ fn ended(st: SetProgress) -> u8
 
 // 16 where a memory holds no set, 9 where a record has something that no venue has a place for, else 0.
 pub fn look(memory: &[u8]) -> u8
-    ensures { result ≡ lookedAt noneRead (heldIn memory.now) }
+    ensures { result ≡ looked_at none_read (held_in memory.now) }
 {
     let mut st = none_read();
     let mut at: usize = 0;

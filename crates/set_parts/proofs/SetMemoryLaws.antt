@@ -10,17 +10,17 @@ use borrow.Author.Tests.{le-leb, lt-leb, leb-true, leb-false}
 use Rattle.rules.specs.Base.{if◌then◌else◌}
 use Rattle.records.specs.Seen.{Seen, seen, pasted, ◌plus◌}
 use Rattle.records.proofs.SeenLaws.{plus-in, plus-out, pasted-to, pasted_length}
-use Rattle.set_parts.specs.SetMemory.{SetMemory, over, setMemory, ◌adds◌}
-use Rattle.set_parts.specs.Parts.{recordIf}
+use Rattle.set_parts.specs.SetMemory.{SetMemory, over, set_memory, ◌adds◌}
+use Rattle.set_parts.specs.Parts.{record_if}
 
 -- A position, and bytes more ------------------------------------------------------------------
 
-memory-in : (l : List ℕ) (at : ℕ) → at ≤ length l → setMemory l at ≡ record { room = length l; position = at; front = take at l }
-unfolding setMemory
+memory-in : (l : List ℕ) (at : ℕ) → at ≤ length l → set_memory l at ≡ record { room = length l; position = at; front = take at l }
+unfolding set_memory
 memory-in l at h = rw (le-leb _ _ h)
 
-memory-over : (l : List ℕ) (at : ℕ) → length l < at → setMemory l at ≡ over (length l)
-unfolding setMemory
+memory-over : (l : List ℕ) (at : ℕ) → length l < at → set_memory l at ≡ over (length l)
+unfolding set_memory
 memory-over l at h = rw (lt-leb _ _ h)
 
 adds-in : (w : SetMemory) (bs : List ℕ) → w.position + length bs ≤ w.room →
@@ -38,10 +38,10 @@ unfolding over
 over-adds room bs = adds-over (over room) bs (omega arith)
 
 -- no bytes
-pub adds_none : (l : List ℕ) (at : ℕ) → setMemory l at adds [] ≡ setMemory l at
+pub adds_none : (l : List ℕ) (at : ℕ) → set_memory l at adds [] ≡ set_memory l at
 adds_none l at = go (leb at (length l)) refl
   where
-    go : (t : Bool) → leb at (length l) ≡ t → setMemory l at adds [] ≡ setMemory l at
+    go : (t : Bool) → leb at (length l) ≡ t → set_memory l at adds [] ≡ set_memory l at
     go true e =
         let h : at ≤ length l = leb-true _ _ e in
         let z : at + 0 ≡ at = omega arith in
@@ -84,24 +84,24 @@ pub adds_then : (x v w : SetMemory) (a b : List ℕ) → v ≡ w adds a → x �
 adds_then x v w a b p q = q ∙ ap (λ (y : SetMemory). y adds b) p ∙ adds-adds w a b
 
 -- a record where there is one
-pub absent : (l : List ℕ) (at : ℕ) (t : Bool) (r : List ℕ) → t ≡ false → setMemory l at ≡ setMemory l at adds recordIf t r
-unfolding recordIf
+pub absent : (l : List ℕ) (at : ℕ) (t : Bool) (r : List ℕ) → t ≡ false → set_memory l at ≡ set_memory l at adds record_if t r
+unfolding record_if
 absent l at t r e = rw e (sym (adds_none l at))
 
-pub present : (x w : SetMemory) (t : Bool) (r : List ℕ) → t ≡ true → x ≡ w adds r → x ≡ w adds recordIf t r
-unfolding recordIf
+pub present : (x w : SetMemory) (t : Bool) (r : List ℕ) → t ≡ true → x ≡ w adds r → x ≡ w adds record_if t r
+unfolding record_if
 present x w t r e p = rw e p
 
 -- A write -------------------------------------------------------------------------------------
 
-pub wrote : (l m bs rs : List ℕ) (at end : ℕ) → seen m end ≡ seen l at plus bs → bs ≡ rs → setMemory m end ≡ setMemory l at adds rs
+pub wrote : (l m bs rs : List ℕ) (at end : ℕ) → seen m end ≡ seen l at plus bs → bs ≡ rs → set_memory m end ≡ set_memory l at adds rs
 unfolding seen
-wrote l m bs rs at end e same = go (leb (at + length bs) (length l)) refl ∙ ap (λ (x : List ℕ). setMemory l at adds x) same
+wrote l m bs rs at end e same = go (leb (at + length bs) (length l)) refl ∙ ap (λ (x : List ℕ). set_memory l at adds x) same
   where
-    memory-is : (n : List ℕ) (p : ℕ) → seen m end ≡ seen n p → setMemory m end ≡ setMemory n p
-    memory-is n p q = ap₂ setMemory (ap (λ (w : Seen). w.memory) q) (ap (λ (w : Seen). w.at) q)
+    memory-is : (n : List ℕ) (p : ℕ) → seen m end ≡ seen n p → set_memory m end ≡ set_memory n p
+    memory-is n p q = ap₂ set_memory (ap (λ (w : Seen). w.memory) q) (ap (λ (w : Seen). w.at) q)
 
-    go : (t : Bool) → leb (at + length bs) (length l) ≡ t → setMemory m end ≡ setMemory l at adds bs
+    go : (t : Bool) → leb (at + length bs) (length l) ≡ t → set_memory m end ≡ set_memory l at adds bs
     go true f =
         let h : at + length bs ≤ length l = leb-true _ _ f in
         let z : length (pasted l at bs) ≡ length l = pasted_length l bs at h in
@@ -112,10 +112,10 @@ wrote l m bs rs at end e same = go (leb (at + length bs) (length l)) refl ∙ ap
         let h : length l < at + length bs = leb-false _ _ f in
         memory-is _ _ (e ∙ plus-out l bs at h) ∙ memory-over _ _ (omega arith) ∙ sym (not-added h)
       where
-        not-added : length l < at + length bs → setMemory l at adds bs ≡ over (length l)
+        not-added : length l < at + length bs → set_memory l at adds bs ≡ over (length l)
         not-added h = by (leb at (length l)) refl
           where
-            by : (t : Bool) → leb at (length l) ≡ t → setMemory l at adds bs ≡ over (length l)
+            by : (t : Bool) → leb at (length l) ≡ t → set_memory l at adds bs ≡ over (length l)
             by true k = ap (λ (w : SetMemory). w adds bs) (memory-in l at (leb-true _ _ k)) ∙ adds-over _ bs h
             by false k = ap (λ (w : SetMemory). w adds bs) (memory-over l at (leb-false _ _ k)) ∙ over-adds _ bs
 
@@ -123,21 +123,21 @@ wrote l m bs rs at end e same = go (leb (at + length bs) (length l)) refl ∙ ap
 
 -- `whole` is to be added to the memory l₀ at `at`, and `left` is left of it
 abbrev pub Left : (whole left l₀ : List ℕ) (at : ℕ) (l : List ℕ) (pos : ℕ) → Type 0
-Left whole left l₀ at l pos = setMemory l pos adds left ≡ setMemory l₀ at adds whole
+Left whole left l₀ at l pos = set_memory l pos adds left ≡ set_memory l₀ at adds whole
 
 -- some bytes of what is left
-pub left-next : (whole left next rest l₀ l m : List ℕ) (at pos end : ℕ) → Left whole left l₀ at l pos → left ≡ next ++ rest → setMemory m end ≡ setMemory l pos adds next →
+pub left-next : (whole left next rest l₀ l m : List ℕ) (at pos end : ℕ) → Left whole left l₀ at l pos → left ≡ next ++ rest → set_memory m end ≡ set_memory l pos adds next →
     Left whole rest l₀ at m end
 left-next whole left next rest l₀ l m at pos end i e p =
-    ap (λ (w : SetMemory). w adds rest) p ∙ adds-adds (setMemory l pos) next rest ∙ ap (λ (x : List ℕ). setMemory l pos adds x) (sym e) ∙ i
+    ap (λ (w : SetMemory). w adds rest) p ∙ adds-adds (set_memory l pos) next rest ∙ ap (λ (x : List ℕ). set_memory l pos adds x) (sym e) ∙ i
 
 -- nothing is left
-pub left-none : (whole left l₀ l : List ℕ) (at pos : ℕ) → Left whole left l₀ at l pos → left ≡ [] → setMemory l pos ≡ setMemory l₀ at adds whole
-left-none whole left l₀ l at pos i e = sym (adds_none l pos) ∙ ap (λ (x : List ℕ). setMemory l pos adds x) (sym e) ∙ i
+pub left-none : (whole left l₀ l : List ℕ) (at pos : ℕ) → Left whole left l₀ at l pos → left ≡ [] → set_memory l pos ≡ set_memory l₀ at adds whole
+left-none whole left l₀ l at pos i e = sym (adds_none l pos) ∙ ap (λ (x : List ℕ). set_memory l pos adds x) (sym e) ∙ i
 
 -- the memory has as many bytes as before
-memory-room : (l : List ℕ) (at : ℕ) → (setMemory l at).room ≡ length l
-unfolding setMemory over
+memory-room : (l : List ℕ) (at : ℕ) → (set_memory l at).room ≡ length l
+unfolding set_memory over
 memory-room l at = go (leb at (length l))
   where
     go : (t : Bool) → (if t then record { room = length l; position = at; front = take at l } else over (length l)).room ≡ length l
@@ -154,22 +154,22 @@ adds-room w bs = go (leb (w.position + length bs) w.room)
 
 pub left-room : (whole left l₀ l : List ℕ) (at pos : ℕ) → Left whole left l₀ at l pos → length l ≡ length l₀
 left-room whole left l₀ l at pos i =
-    sym (adds-room (setMemory l pos) left ∙ memory-room l pos) ∙ ap (λ (w : SetMemory). w.room) i ∙ adds-room (setMemory l₀ at) whole ∙ memory-room l₀ at
+    sym (adds-room (set_memory l pos) left ∙ memory-room l pos) ∙ ap (λ (w : SetMemory). w.room) i ∙ adds-room (set_memory l₀ at) whole ∙ memory-room l₀ at
 
 -- The whole -------------------------------------------------------------------------------------
 
-module _ (l m bs : List ℕ) (end : ℕ) (e : setMemory m end ≡ setMemory l 0 adds bs) where
-  at_front : length bs ≤ length l → setMemory l 0 adds bs ≡ record { room = length l; position = length bs; front = bs }
+module _ (l m bs : List ℕ) (end : ℕ) (e : set_memory m end ≡ set_memory l 0 adds bs) where
+  at_front : length bs ≤ length l → set_memory l 0 adds bs ≡ record { room = length l; position = length bs; front = bs }
   at_front h =
       let z : 0 + length bs ≡ length bs = omega arith in
       ap (λ (w : SetMemory). w adds bs) (memory-in l 0 (omega arith)) ∙ adds-in _ bs (omega arith)
       ∙ ap (λ (p : ℕ). record { room = length l; position = p; front = bs }) z
 
-  past-front : length l < length bs → setMemory l 0 adds bs ≡ over (length l)
+  past-front : length l < length bs → set_memory l 0 adds bs ≡ over (length l)
   past-front h = ap (λ (w : SetMemory). w adds bs) (memory-in l 0 (omega arith)) ∙ adds-over _ bs (omega arith)
 
   pub room-is : length m ≡ length l
-  room-is = sym (memory-room m end) ∙ ap (λ (w : SetMemory). w.room) e ∙ adds-room (setMemory l 0) bs ∙ memory-room l 0
+  room-is = sym (memory-room m end) ∙ ap (λ (w : SetMemory). w.room) e ∙ adds-room (set_memory l 0) bs ∙ memory-room l 0
 
   -- a position within the memory: the bytes fit, and stand up to it
   pub record Stands : Type 0 where

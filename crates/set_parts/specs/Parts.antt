@@ -1,30 +1,30 @@
 -- The parts of a set as they are written from the numbers of a venue.
 use Rattle.std.specs.Prelude.{◌≡◌, Bool, true, false, List, [], ℕ, suc, ◌+◌, ◌-◌, ◌*◌, ◌≤◌, leb, ltb}
 use Rattle.rules.specs.Base.{if◌then◌else◌, held}
-use Rattle.places.specs.Layout.{upto, regularIn, complexIn, leggingIn}
-use Rattle.sets.specs.Set.{by_id, joined, leggingRecord}
+use Rattle.places.specs.Layout.{upto, regular_in, complex_in, legging_in}
+use Rattle.sets.specs.Set.{by_id, joined, legging_record}
 use Rattle.set_parts.specs.declared.Orders.{Orders}
-use Rattle.set_parts.specs.SetMemory.{setMemory, ◌adds◌}
+use Rattle.set_parts.specs.SetMemory.{set_memory, ◌adds◌}
 
 -- a record, where there is one
-unfoldable pub recordIf : Bool → List ℕ → List ℕ
-recordIf t r = if t then r else []
+unfoldable pub record_if : Bool → List ℕ → List ℕ
+record_if t r = if t then r else []
 
 -- the orders of n regular and m complex places, from place i and place j on
-unfoldable pub ordersFrom : List ℕ → (n m i j : ℕ) → List (List ℕ)
-ordersFrom b n m i j = by_id (n - i + (m - j)) (upto (regularIn b) i (n - i)) (upto (complexIn b) j (m - j))
+unfoldable pub orders_from : List ℕ → (n m i j : ℕ) → List (List ℕ)
+orders_from b n m i j = by_id (n - i + (m - j)) (upto (regular_in b) i (n - i)) (upto (complex_in b) j (m - j))
 
 -- the regular order at place i is the next one: it is there, and the complex order at place j, if there is one, has a higher id
-unfoldable pub regularNext : List ℕ → (n m i j : ℕ) → Bool
-regularNext b n m i j = if leb n i then false else if leb m j then true else ltb (regularIn b i).id (complexIn b j).id
+unfoldable pub regular_next : List ℕ → (n m i j : ℕ) → Bool
+regular_next b n m i j = if leb n i then false else if leb m j then true else ltb (regular_in b i).id (complex_in b j).id
 
 -- from t to r one more order is written
 pub record OneMore (b : List ℕ) (n m : ℕ) (t : Orders) (l₀ : List ℕ) (r : Orders) (l : List ℕ) : Type 0 where
-  pub same : setMemory l r.at adds joined (ordersFrom b n m r.regular r.complex) ≡ setMemory l₀ t.at adds joined (ordersFrom b n m t.regular t.complex)
+  pub same : set_memory l r.at adds joined (orders_from b n m r.regular r.complex) ≡ set_memory l₀ t.at adds joined (orders_from b n m t.regular t.complex)
   pub regular : r.regular ≤ n
   pub complex : r.complex ≤ m
   pub one : r.regular + r.complex ≡ suc (t.regular + t.complex)
 
 -- the record of the legging order at a side's place of a series, where it holds one
-unfoldable pub sideRecord : List ℕ → (series side : ℕ) → List ℕ
-sideRecord b s d = recordIf (held (leggingIn b (2 * s + d)).quantity) (leggingRecord s d (leggingIn b (2 * s + d)))
+unfoldable pub side_record : List ℕ → (series side : ℕ) → List ℕ
+side_record b s d = record_if (held (legging_in b (2 * s + d)).quantity) (legging_record s d (legging_in b (2 * s + d)))

@@ -13,8 +13,8 @@ pub record SetMemory : Type 0 where
 unfoldable pub over : (room : ℕ) → SetMemory
 over room = record { room = room; position = suc room; front = [] }
 
-unfoldable pub setMemory : List ℕ → (at : ℕ) → SetMemory
-setMemory l at = if leb at (length l) then record { room = length l; position = at; front = take at l } else over (length l)
+unfoldable pub set_memory : List ℕ → (at : ℕ) → SetMemory
+set_memory l at = if leb at (length l) then record { room = length l; position = at; front = take at l } else over (length l)
 
 -- more bytes after them
 infixl 6 ◌adds◌

@@ -3,13 +3,13 @@ ghost use Rattle.std.specs.Prelude.{◌≡◌, ◌∷◌, ◌++◌, map, ◌+◌
 ghost use Rattle.rules.specs.declared.Message.TheVariants.{Away, Status};
 ghost use Rattle.rules.specs.Base.{held, keep};
 ghost use Rattle.rules.specs.Bytes.{u8};
-ghost use Rattle.rules.specs.Messages.{twoLegFields, encodeMessage};
-ghost use Rattle.rules.specs.Generation.{generationsOf};
-ghost use Rattle.rules.specs.Places.{holdsEdition};
-ghost use Rattle.places.specs.Layout.{size, venueOf, regularsUsed, complexesUsed};
-ghost use Rattle.sets.specs.Set.{firstRecord, seriesRecords, editionRecord, regularRecord, complexRecord, leggingRecord, leggingRecords, generationRecord, generationRecords, reachedRecords, joined};
-ghost use Rattle.set_parts.specs.SetMemory.{setMemory, ◌adds◌};
-ghost use Rattle.set_parts.specs.Parts.{recordIf, ordersFrom, regularNext, OneMore, sideRecord};
+ghost use Rattle.rules.specs.Messages.{two_leg_fields, encode_message};
+ghost use Rattle.rules.specs.Generation.{generations_of};
+ghost use Rattle.rules.specs.Places.{holds_edition};
+ghost use Rattle.places.specs.Layout.{size, venue_of, regulars_used, complexes_used};
+ghost use Rattle.sets.specs.Set.{first_record, series_records, edition_record, regular_record, complex_record, legging_record, legging_records, generation_record, generation_records, reached_records, joined};
+ghost use Rattle.set_parts.specs.SetMemory.{set_memory, ◌adds◌};
+ghost use Rattle.set_parts.specs.Parts.{record_if, orders_from, regular_next, OneMore, side_record};
 ghost use Rattle.places.specs.Requirements.{SeriesReady};
 ghost use Rattle.set_parts.specs.Requirements.{OrdersLeft};
 
@@ -27,7 +27,7 @@ pub struct Orders {
 
 // 80: the message number and the last id.
 pub fn put_first(out: &mut [u8], at: usize, number: u32, last: u32) -> usize
-    ensures { setMemory out.new result ≡ setMemory out.old at adds firstRecord number last }
+    ensures { set_memory out.new result ≡ set_memory out.old at adds first_record number last }
 {
     let head = [12u8, 0, 80, 0];
     let words = [number, last];
@@ -36,7 +36,7 @@ pub fn put_first(out: &mut [u8], at: usize, number: u32, last: u32) -> usize
 
 // 5: a series' status.
 fn put_status(out: &mut [u8], at: usize, s: u8, status: u8) -> usize
-    ensures { setMemory out.new result ≡ setMemory out.old at adds encodeMessage (Status s status) }
+    ensures { set_memory out.new result ≡ set_memory out.old at adds encode_message (Status s status) }
 {
     let record = [6u8, 0, 5, 0, s, status];
     records::put(out, at, &record)
@@ -44,7 +44,7 @@ fn put_status(out: &mut [u8], at: usize, s: u8, status: u8) -> usize
 
 // 4: a series' away prices.
 fn put_away(out: &mut [u8], at: usize, s: u8, bid: u32, offer: u32) -> usize
-    ensures { setMemory out.new result ≡ setMemory out.old at adds encodeMessage (Away s bid offer) }
+    ensures { set_memory out.new result ≡ set_memory out.old at adds encode_message (Away s bid offer) }
 {
     let head = [13u8, 0, 4, 0, s];
     let words = [bid, offer];
@@ -53,7 +53,7 @@ fn put_away(out: &mut [u8], at: usize, s: u8, bid: u32, offer: u32) -> usize
 
 // 5 and 4 of a series.
 fn put_listed(out: &mut [u8], at: usize, s: u8, x: Listed) -> usize
-    ensures { setMemory out.new result ≡ setMemory out.old at adds (encodeMessage (Status s x.status) ++ encodeMessage (Away s x.bid x.offer)) }
+    ensures { set_memory out.new result ≡ set_memory out.old at adds (encode_message (Status s x.status) ++ encode_message (Away s x.bid x.offer)) }
 {
     let pos = put_status(out, at, s, x.status);
     put_away(out, pos, s, x.bid, x.offer)
@@ -61,7 +61,7 @@ fn put_listed(out: &mut [u8], at: usize, s: u8, x: Listed) -> usize
 
 // 7 or 8: an edition, where the place holds one, with its message number.
 fn put_edition(out: &mut [u8], at: usize, e: Edition) -> usize
-    ensures { setMemory out.new result ≡ setMemory out.old at adds recordIf (holdsEdition e) (editionRecord e) }
+    ensures { set_memory out.new result ≡ set_memory out.old at adds record_if (holds_edition e) (edition_record e) }
 {
     if e.edition == 0 {
         return at;
@@ -77,7 +77,7 @@ fn put_edition(out: &mut [u8], at: usize, e: Edition) -> usize
 
 // 9: a regular order, with what is left of it and what it shows.
 fn put_regular(out: &mut [u8], at: usize, o: Regular) -> usize
-    ensures { setMemory out.new result ≡ setMemory out.old at adds regularRecord o }
+    ensures { set_memory out.new result ≡ set_memory out.old at adds regular_record o }
 {
     let i = records::bytes4(o.id);
     let head = [22u8, 0, 9, 0, i[0], i[1], i[2], i[3], o.series, o.side];
@@ -87,7 +87,7 @@ fn put_regular(out: &mut [u8], at: usize, o: Regular) -> usize
 
 // The fields of kind 2, which kind 10 begins with, after a length and a kind.
 fn put_two_leg(out: &mut [u8], at: usize, length: u8, kind: u8, c: Complex) -> usize
-    ensures { setMemory out.new result ≡ setMemory out.old at adds (length ∷ 0 ∷ kind ∷ 0 ∷ twoLegFields c) }
+    ensures { set_memory out.new result ≡ set_memory out.old at adds (length ∷ 0 ∷ kind ∷ 0 ∷ two_leg_fields c) }
 {
     let i = records::bytes4(c.id);
     let head = [
@@ -99,7 +99,7 @@ fn put_two_leg(out: &mut [u8], at: usize, length: u8, kind: u8, c: Complex) -> u
 
 // A complex order's ratios, a byte each.
 fn put_ratios(out: &mut [u8], at: usize, c: Complex) -> usize
-    ensures { setMemory out.new result ≡ setMemory out.old at adds (u8 c.ratio1 ++ u8 c.ratio2) }
+    ensures { set_memory out.new result ≡ set_memory out.old at adds (u8 c.ratio1 ++ u8 c.ratio2) }
 {
     let ratios = [c.ratio1, c.ratio2];
     records::put(out, at, &ratios)
@@ -107,7 +107,7 @@ fn put_ratios(out: &mut [u8], at: usize, c: Complex) -> usize
 
 // 2 or 10: a complex order, with what is left of it.
 fn put_complex(out: &mut [u8], at: usize, c: Complex) -> usize
-    ensures { setMemory out.new result ≡ setMemory out.old at adds complexRecord c }
+    ensures { set_memory out.new result ≡ set_memory out.old at adds complex_record c }
 {
     if arithmetic::is_one_to_one(c) {
         return put_two_leg(out, at, 21, 2, c);
@@ -118,7 +118,7 @@ fn put_complex(out: &mut [u8], at: usize, c: Complex) -> usize
 
 // 82: a legging order, where the place holds one.
 fn put_legging(out: &mut [u8], at: usize, s: u8, d: u8, l: Legging) -> usize
-    ensures { setMemory out.new result ≡ setMemory out.old at adds recordIf (held l.quantity) (leggingRecord s d l) }
+    ensures { set_memory out.new result ≡ set_memory out.old at adds record_if (held l.quantity) (legging_record s d l) }
 {
     if l.quantity == 0 {
         return at;
@@ -131,7 +131,7 @@ fn put_legging(out: &mut [u8], at: usize, s: u8, d: u8, l: Legging) -> usize
 
 // 83: a generation of a series, where there is one.
 fn put_generation(out: &mut [u8], at: usize, s: u8, number: u32) -> usize
-    ensures { setMemory out.new result ≡ setMemory out.old at adds recordIf (held number) (generationRecord s number) }
+    ensures { set_memory out.new result ≡ set_memory out.old at adds record_if (held number) (generation_record s number) }
 {
     if number == 0 {
         return at;
@@ -143,7 +143,7 @@ fn put_generation(out: &mut [u8], at: usize, s: u8, number: u32) -> usize
 
 // 84: the id reached, if any.
 pub fn put_reached(out: &mut [u8], at: usize, id: u32) -> usize
-    ensures { setMemory out.new result ≡ setMemory out.old at adds joined (reachedRecords id) }
+    ensures { set_memory out.new result ≡ set_memory out.old at adds joined (reached_records id) }
 {
     if id == 0 {
         return at;
@@ -158,7 +158,7 @@ pub fn put_reached(out: &mut [u8], at: usize, id: u32) -> usize
 // 5 and 4 for each series in turn.
 pub fn put_series(numbers: &[u32], out: &mut [u8], at: usize) -> usize
     requires { length numbers.now ≡ size }
-    ensures { setMemory out.new result ≡ setMemory out.old at adds joined (seriesRecords 0 (venueOf numbers.now).series) }
+    ensures { set_memory out.new result ≡ set_memory out.old at adds joined (series_records 0 (venue_of numbers.now).series) }
 {
     let mut pos = at;
     let mut s: usize = 0;
@@ -173,7 +173,7 @@ pub fn put_series(numbers: &[u32], out: &mut [u8], at: usize) -> usize
 // The editions by rising edition, as their places stand.
 pub fn put_editions(numbers: &[u32], out: &mut [u8], at: usize) -> usize
     requires { length numbers.now ≡ size }
-    ensures { setMemory out.new result ≡ setMemory out.old at adds joined (map editionRecord (keep holdsEdition (venueOf numbers.now).editions)) }
+    ensures { set_memory out.new result ≡ set_memory out.old at adds joined (map edition_record (keep holds_edition (venue_of numbers.now).editions)) }
 {
     let mut pos = at;
     let mut i: usize = 0;
@@ -188,7 +188,7 @@ pub fn put_editions(numbers: &[u32], out: &mut [u8], at: usize) -> usize
 // Of the orders left in n regular and m complex places, the regular order at place i comes next, before the complex order at place j.
 fn regular_next(numbers: &[u32], n: usize, m: usize, i: usize, j: usize) -> bool
     requires { (length numbers.now ≡ size) × (n ≤ 128) × (m ≤ 32) }
-    ensures { result ≡ regularNext numbers.now n m i j }
+    ensures { result ≡ regular_next numbers.now n m i j }
 {
     if n <= i {
         return false;
@@ -229,7 +229,7 @@ fn put_next(numbers: &[u32], n: usize, m: usize, t: Orders, out: &mut [u8]) -> O
 // The resting orders of both books by rising id.
 pub fn put_orders(numbers: &[u32], out: &mut [u8], at: usize) -> usize
     requires { length numbers.now ≡ size }
-    ensures { setMemory out.new result ≡ setMemory out.old at adds joined (ordersFrom numbers.now (regularsUsed numbers.now) (complexesUsed numbers.now) 0 0) }
+    ensures { set_memory out.new result ≡ set_memory out.old at adds joined (orders_from numbers.now (regulars_used numbers.now) (complexes_used numbers.now) 0 0) }
 {
     let n = places::regulars_used(numbers);
     let m = places::complexes_used(numbers);
@@ -247,7 +247,7 @@ pub fn put_orders(numbers: &[u32], out: &mut [u8], at: usize) -> usize
 // The legging orders of a series, side 0 first.
 fn put_sides(numbers: &[u32], out: &mut [u8], at: usize, s: usize) -> usize
     requires { SeriesReady numbers.now s }
-    ensures { setMemory out.new result ≡ setMemory out.old at adds (sideRecord numbers.now s 0 ++ sideRecord numbers.now s 1) }
+    ensures { set_memory out.new result ≡ set_memory out.old at adds (side_record numbers.now s 0 ++ side_record numbers.now s 1) }
 {
     let l = places::legging_at(numbers, 2 * s);
     let pos = put_legging(out, at, s as u8, 0, l);
@@ -258,7 +258,7 @@ fn put_sides(numbers: &[u32], out: &mut [u8], at: usize, s: usize) -> usize
 // The legging orders by rising place.
 pub fn put_leggings(numbers: &[u32], out: &mut [u8], at: usize) -> usize
     requires { length numbers.now ≡ size }
-    ensures { setMemory out.new result ≡ setMemory out.old at adds joined (leggingRecords 0 (venueOf numbers.now).legging) }
+    ensures { set_memory out.new result ≡ set_memory out.old at adds joined (legging_records 0 (venue_of numbers.now).legging) }
 {
     let mut pos = at;
     let mut s: usize = 0;
@@ -272,7 +272,7 @@ pub fn put_leggings(numbers: &[u32], out: &mut [u8], at: usize) -> usize
 // A series' last generations, oldest first.
 fn put_generations(numbers: &[u32], out: &mut [u8], at: usize, s: usize) -> usize
     requires { SeriesReady numbers.now s }
-    ensures { setMemory out.new result ≡ setMemory out.old at adds joined (map (generationRecord s) (keep held (generationsOf (venueOf numbers.now) s))) }
+    ensures { set_memory out.new result ≡ set_memory out.old at adds joined (map (generation_record s) (keep held (generations_of (venue_of numbers.now) s))) }
 {
     let mut pos = at;
     let mut k: usize = 0;
@@ -287,7 +287,7 @@ fn put_generations(numbers: &[u32], out: &mut [u8], at: usize, s: usize) -> usiz
 // The last generations of each series in turn.
 pub fn put_all_generations(numbers: &[u32], out: &mut [u8], at: usize) -> usize
     requires { length numbers.now ≡ size }
-    ensures { setMemory out.new result ≡ setMemory out.old at adds joined (generationRecords 0 (venueOf numbers.now).generations) }
+    ensures { set_memory out.new result ≡ set_memory out.old at adds joined (generation_records 0 (venue_of numbers.now).generations) }
 {
     let mut pos = at;
     let mut s: usize = 0;

@@ -9,47 +9,47 @@ use lib.Dec.{eqb, ltb}
 use lib.ListN.{length}
 use borrow.Author.Tests.{eqb-true, eq-eqb, ne_eqb, lt-ltb, le-ltb, ltb-true, ltb-false}
 use Rattle.rules.specs.Base.{if◌then◌else◌, keep}
-use Rattle.rules.specs.Bytes.{u8_at, kindField}
+use Rattle.rules.specs.Bytes.{u8_at, kind_field}
 use Rattle.rules.proofs.Tests.{and_l, and_r}
-use Rattle.sets.specs.Set.{part, sortKey, count_of, ofSeries, is_set, tellsEdition, tellsRegular, tellsComplex, tellsLegging, tellsGeneration}
+use Rattle.sets.specs.Set.{part, sort_key, count_of, of_series, is_set, tells_edition, tells_regular, tells_complex, tells_legging, tells_generation}
 use Rattle.sets.proofs.Parts.{sort, sort-of}
 use Rattle.sets.proofs.Lists.{Each, keep_append, keep-none, each_more}
 use Rattle.set_check.specs.declared.SetProgress.{SetProgress}
-use Rattle.set_check.specs.Order.{noneRead, opens, isNext, mayStand, sameSeries, onward, few, goesOn}
+use Rattle.set_check.specs.Order.{none_read, opens, is_next, may_stand, same_series, onward, few, goes_on}
 use Rattle.set_check.proofs.OrderLaws.{Few, few-out}
 use Rattle.set_tables.proofs.Ordered.{count-more, InOrder, order-on, stand-out, Fine, Blank, blank-few, blank-on, opened-more, goes-fine, none-blank, no_part, set-goes}
 
 -- one step of a set
-module _ (st : SetProgress) (r : List ℕ) (rs : List (List ℕ)) (h : goesOn st (r ∷ rs) ≡ true) where
-  step_both : (isNext st r && few (onward st r)) ≡ true
-  unfolding goesOn
-  step_both = and_l (isNext st r && few (onward st r)) (goesOn (onward st r) rs) h
+module _ (st : SetProgress) (r : List ℕ) (rs : List (List ℕ)) (h : goes_on st (r ∷ rs) ≡ true) where
+  step_both : (is_next st r && few (onward st r)) ≡ true
+  unfolding goes_on
+  step_both = and_l (is_next st r && few (onward st r)) (goes_on (onward st r) rs) h
 
-  step-next : isNext st r ≡ true
-  step-next = and_l (isNext st r) (few (onward st r)) step_both
+  step-next : is_next st r ≡ true
+  step-next = and_l (is_next st r) (few (onward st r)) step_both
 
   step-few : few (onward st r) ≡ true
-  step-few = and_r (isNext st r) (few (onward st r)) step_both
+  step-few = and_r (is_next st r) (few (onward st r)) step_both
 
-  step-goes : goesOn (onward st r) rs ≡ true
-  unfolding goesOn
-  step-goes = and_r (isNext st r && few (onward st r)) (goesOn (onward st r) rs) h
+  step-goes : goes_on (onward st r) rs ≡ true
+  unfolding goes_on
+  step-goes = and_r (is_next st r && few (onward st r)) (goes_on (onward st r) rs) h
 
   step_part : st.opened < 17 → part r ≡ 0
-  unfolding isNext opens
+  unfolding is_next opens
   step_part early = go (eqb st.opened 0) (rw (lt-ltb st.opened 17 early) at step-next)
     where
-      go : (z : Bool) → (if z then eqb (kindField r) 80 || eqb (kindField r) 81 else eqb (kindField r) (4 + st.opened % 2) && eqb (u8_at r 4) ((st.opened - 1) / 2)) ≡ true → part r ≡ 0
-      go true k = first (eqb (kindField r) 80) refl k
+      go : (z : Bool) → (if z then eqb (kind_field r) 80 || eqb (kind_field r) 81 else eqb (kind_field r) (4 + st.opened % 2) && eqb (u8_at r 4) ((st.opened - 1) / 2)) ≡ true → part r ≡ 0
+      go true k = first (eqb (kind_field r) 80) refl k
         where
-          first : (t : Bool) → eqb (kindField r) 80 ≡ t → (t || eqb (kindField r) 81) ≡ true → part r ≡ 0
-          first true e f = no_part r (inl (eqb-true (kindField r) 80 e))
-          first false e f = no_part r (inr (inl (eqb-true (kindField r) 81 f)))
+          first : (t : Bool) → eqb (kind_field r) 80 ≡ t → (t || eqb (kind_field r) 81) ≡ true → part r ≡ 0
+          first true e f = no_part r (inl (eqb-true (kind_field r) 80 e))
+          first false e f = no_part r (inr (inl (eqb-true (kind_field r) 81 f)))
       go false k =
-          let e = eqb-true (kindField r) (4 + st.opened % 2) (and_l (eqb (kindField r) (4 + st.opened % 2)) (eqb (u8_at r 4) ((st.opened - 1) / 2)) k) in
+          let e = eqb-true (kind_field r) (4 + st.opened % 2) (and_l (eqb (kind_field r) (4 + st.opened % 2)) (eqb (u8_at r 4) ((st.opened - 1) / 2)) k) in
           half (st.opened % 2) (omega arith) e
         where
-          half : (x : ℕ) → x < 2 → kindField r ≡ 4 + x → part r ≡ 0
+          half : (x : ℕ) → x < 2 → kind_field r ≡ 4 + x → part r ≡ 0
           half zero l e = no_part r (inr (inr (inr e)))
           half (suc zero) l e = no_part r (inr (inr (inl e)))
           half (suc (suc x)) l e = absurd (omega arith)
@@ -64,7 +64,7 @@ pub record Tail (rs : List (List ℕ)) : Type 0 where
   pub blank : Blank before
   pub fine : Fine before tail
 
-tail_of : (rs : List (List ℕ)) (st : SetProgress) → Blank st → st.opened ≤ 17 → goesOn st rs ≡ true → Tail rs
+tail_of : (rs : List (List ℕ)) (st : SetProgress) → Blank st → st.opened ≤ 17 → goes_on st rs ≡ true → Tail rs
 tail_of [] st b s h = record {
   front = [];
   tail = [];
@@ -72,7 +72,7 @@ tail_of [] st b s h = record {
   none = tt;
   before = st;
   blank = b;
-  fine = goes-fine [] st (ended (ltb st.opened 17) refl (unfold goesOn in h)) (blank-few st b) h;
+  fine = goes-fine [] st (ended (ltb st.opened 17) refl (unfold goes_on in h)) (blank-few st b) h;
 }
   where
     ended : (t : Bool) → ltb st.opened 17 ≡ t → not t ≡ true → st.opened ≡ 17
@@ -80,7 +80,7 @@ tail_of [] st b s h = record {
     ended false e k = let l = ltb-false st.opened 17 e in omega arith
 tail_of (r ∷ rs) st b s h = go (ltb st.opened 17) refl (λ b' s' h'. tail_of rs (onward st r) b' s' h')
   where
-    go : (t : Bool) → ltb st.opened 17 ≡ t → (Blank (onward st r) → (onward st r).opened ≤ 17 → goesOn (onward st r) rs ≡ true → Tail rs) → Tail (r ∷ rs)
+    go : (t : Bool) → ltb st.opened 17 ≡ t → (Blank (onward st r) → (onward st r).opened ≤ 17 → goes_on (onward st r) rs ≡ true → Tail rs) → Tail (r ∷ rs)
     go false e ih =
         let l = ltb-false st.opened 17 e in
         record { front = []; tail = r ∷ rs; split = refl; none = tt; before = st; blank = b; fine = goes-fine (r ∷ rs) st (omega arith) (blank-few st b) h }
@@ -91,17 +91,17 @@ tail_of (r ∷ rs) st b s h = go (ltb st.opened 17) refl (λ b' s' h'. tail_of r
         let t = ih (blank-on st b r p) (omega arith) (step-goes st r rs h) in
         record { front = r ∷ t.front; tail = t.tail; split = ap (λ (x : List (List ℕ)). r ∷ x) t.split; none = (p, t.none); before = t.before; blank = t.blank; fine = t.fine }
 
-none-goes : (rs : List (List ℕ)) → is_set rs ≡ true → goesOn noneRead rs ≡ true
+none-goes : (rs : List (List ℕ)) → is_set rs ≡ true → goes_on none_read rs ≡ true
 none-goes rs h = set-goes rs ∙ h
 
 pub set-tail : (rs : List (List ℕ)) → is_set rs ≡ true → Tail rs
-set-tail rs h = tail_of rs noneRead none-blank (unfold noneRead in (omega arith)) (none-goes rs h)
+set-tail rs h = tail_of rs none_read none-blank (unfold none_read in (omega arith)) (none-goes rs h)
 
 -- Counts ----------------------------------------------------------------------------------------
 
 -- a set has its 17 first records
-long : (rs : List (List ℕ)) (st : SetProgress) → Blank st → st.opened ≤ 17 → goesOn st rs ≡ true → 17 ≤ st.opened + length rs
-long [] st b s h = go (ltb st.opened 17) refl (unfold goesOn in h)
+long : (rs : List (List ℕ)) (st : SetProgress) → Blank st → st.opened ≤ 17 → goes_on st rs ≡ true → 17 ≤ st.opened + length rs
+long [] st b s h = go (ltb st.opened 17) refl (unfold goes_on in h)
   where
     go : (t : Bool) → ltb st.opened 17 ≡ t → not t ≡ true → 17 ≤ st.opened + 0
     go true e k = absurd (true≢false (sym k))
@@ -109,7 +109,7 @@ long [] st b s h = go (ltb st.opened 17) refl (unfold goesOn in h)
 long (r ∷ rs) st b s h = go (ltb st.opened 17) refl (λ b' s' h'. long rs (onward st r) b' s' h')
   where
     go : (t : Bool) → ltb st.opened 17 ≡ t →
-        (Blank (onward st r) → (onward st r).opened ≤ 17 → goesOn (onward st r) rs ≡ true → 17 ≤ (onward st r).opened + length rs) → 17 ≤ st.opened +
+        (Blank (onward st r) → (onward st r).opened ≤ 17 → goes_on (onward st r) rs ≡ true → 17 ≤ (onward st r).opened + length rs) → 17 ≤ st.opened +
         suc (length rs)
     go false e ih = let l = ltb-false st.opened 17 e in omega arith
     go true e ih =
@@ -119,13 +119,13 @@ long (r ∷ rs) st b s h = go (ltb st.opened 17) refl (λ b' s' h'. long rs (onw
         omega arith
 
 pub set_long : (rs : List (List ℕ)) → is_set rs ≡ true → 17 ≤ length rs
-set_long rs h = let z : noneRead.opened ≡ 0 = unfold noneRead in refl in omega (arith, long rs noneRead none-blank (omega arith) (none-goes rs h))
+set_long rs h = let z : none_read.opened ≡ 0 = unfold none_read in refl in omega (arith, long rs none_read none-blank (omega arith) (none-goes rs h))
 
 -- how many records of each part
 pub record Counts (st : SetProgress) (rs : List (List ℕ)) : Type 0 where
-  pub editions : st.editions + count_of tellsEdition rs ≤ 32
-  pub regulars : st.regulars + count_of tellsRegular rs ≤ 128
-  pub complexes : st.complexes + count_of tellsComplex rs ≤ 32
+  pub editions : st.editions + count_of tells_edition rs ≤ 32
+  pub regulars : st.regulars + count_of tells_regular rs ≤ 128
+  pub complexes : st.complexes + count_of tells_complex rs ≤ 32
 
 no-counts : (st : SetProgress) → Few st → Counts st []
 unfolding count_of keep
@@ -135,34 +135,34 @@ more-counts : (st : SetProgress) (r : List ℕ) (rs : List (List ℕ)) → Count
 unfolding onward
 more-counts st r rs c =
     record {
-      editions = omega (arith, count-more tellsEdition r rs, c.editions);
-      regulars = omega (arith, count-more tellsRegular r rs, c.regulars);
-      complexes = omega (arith, count-more tellsComplex r rs, c.complexes);
+      editions = omega (arith, count-more tells_edition r rs, c.editions);
+      regulars = omega (arith, count-more tells_regular r rs, c.regulars);
+      complexes = omega (arith, count-more tells_complex r rs, c.complexes);
     }
 
-goes-counts : (rs : List (List ℕ)) (st : SetProgress) → Few st → goesOn st rs ≡ true → Counts st rs
+goes-counts : (rs : List (List ℕ)) (st : SetProgress) → Few st → goes_on st rs ≡ true → Counts st rs
 goes-counts [] st f h = no-counts st f
 goes-counts (r ∷ rs) st f h = more-counts st r rs (goes-counts rs (onward st r) (few-out (onward st r) (step-few st r rs h)) (step-goes st r rs h))
 
-pub set-counts : (rs : List (List ℕ)) → is_set rs ≡ true → (count_of tellsEdition rs ≤ 32) × (count_of tellsRegular rs ≤ 128) × (count_of tellsComplex rs ≤ 32)
+pub set-counts : (rs : List (List ℕ)) → is_set rs ≡ true → (count_of tells_edition rs ≤ 32) × (count_of tells_regular rs ≤ 128) × (count_of tells_complex rs ≤ 32)
 set-counts rs h =
-    let c = goes-counts rs noneRead (blank-few noneRead none-blank) (none-goes rs h) in
+    let c = goes-counts rs none_read (blank-few none_read none-blank) (none-goes rs h) in
     let e = c.editions in
     let r = c.regulars in
     let x = c.complexes in (omega arith, omega arith, omega arith)
 
-series-none : (x : ℕ) (r : List ℕ) → part r ≡ 0 → ofSeries x r ≡ false
-unfolding ofSeries
+series-none : (x : ℕ) (r : List ℕ) → part r ≡ 0 → of_series x r ≡ false
+unfolding of_series
 series-none x r e = rw (sort-of r 0 e).3
 
-pub set-series : (rs : List (List ℕ)) → is_set rs ≡ true → (x : ℕ) → count_of (ofSeries x) rs ≤ 20
+pub set-series : (rs : List (List ℕ)) → is_set rs ≡ true → (x : ℕ) → count_of (of_series x) rs ≤ 20
 unfolding count_of
 set-series rs h x =
     let t = set-tail rs h in
-    let k : keep (ofSeries x) rs ≡ keep (ofSeries x) t.tail =
-    ap (keep (ofSeries x)) t.split
-    ∙ keep_append (ofSeries x) t.front t.tail
-    ∙ ap (λ (l : List (List ℕ)). l ++ keep (ofSeries x) t.tail) (keep-none (ofSeries x) t.front (each_more (λ r. part r ≡ 0) (λ r. ofSeries x r ≡ false) (series-none x) t.front t.none)) in
+    let k : keep (of_series x) rs ≡ keep (of_series x) t.tail =
+    ap (keep (of_series x)) t.split
+    ∙ keep_append (of_series x) t.front t.tail
+    ∙ ap (λ (l : List (List ℕ)). l ++ keep (of_series x) t.tail) (keep-none (of_series x) t.front (each_more (λ r. part r ≡ 0) (λ r. of_series x r ≡ false) (series-none x) t.front t.none)) in
     let n = ap length k in
     let f = t.fine.series x in
     omega arith
@@ -171,43 +171,43 @@ set-series rs h x =
 
 -- none of these has place n
 abbrev pub Untold : (n : ℕ) → List (List ℕ) → Type 0
-Untold n = Each (λ r. (tellsLegging r && eqb (sortKey r) n) ≡ false)
+Untold n = Each (λ r. (tells_legging r && eqb (sort_key r) n) ≡ false)
 
 -- each place is in one record
 abbrev pub Alone : List (List ℕ) → Type 0
 Alone [] = Unit {0}
-Alone (r ∷ rs) = (tellsLegging r ≡ true → Untold (sortKey r) rs) × Alone rs
+Alone (r ∷ rs) = (tells_legging r ≡ true → Untold (sort_key r) rs) × Alone rs
 
 -- within a part that is not the generations' marks rise
-stand-risen : (st : SetProgress) (r : List ℕ) → mayStand st r ≡ true → st.part ≡ part r → (st.part ≡ 4 → ⊥) → st.key < sortKey r
-unfolding mayStand sameSeries
-stand-risen st r h e n = go (ltb st.key (sortKey r)) refl (rw (le-ltb st.part (part r) (omega arith), eq-eqb st.part (part r) e, ne_eqb st.part 4 n) at h)
+stand-risen : (st : SetProgress) (r : List ℕ) → may_stand st r ≡ true → st.part ≡ part r → (st.part ≡ 4 → ⊥) → st.key < sort_key r
+unfolding may_stand same_series
+stand-risen st r h e n = go (ltb st.key (sort_key r)) refl (rw (le-ltb st.part (part r) (omega arith), eq-eqb st.part (part r) e, ne_eqb st.part 4 n) at h)
   where
-    go : (t : Bool) → ltb st.key (sortKey r) ≡ t → (t || false) ≡ true → st.key < sortKey r
-    go true f k = ltb-true st.key (sortKey r) f
+    go : (t : Bool) → ltb st.key (sort_key r) ≡ t → (t || false) ≡ true → st.key < sort_key r
+    go true f k = ltb-true st.key (sort_key r) f
     go false f k = absurd (true≢false (sym k))
 
-leg-part : (r : List ℕ) → tellsLegging r ≡ true → part r ≡ 3
+leg-part : (r : List ℕ) → tells_legging r ≡ true → part r ≡ 3
 leg-part r e = eqb-true (part r) 3 (sym (sort r).2 ∙ e)
 
 abbrev Passed : SetProgress → ℕ → Type 0
 Passed st n = (3 < st.part) ⊎ ((st.part ≡ 3) × (n ≤ st.key))
 
-passed_on : (st : SetProgress) (n : ℕ) (r : List ℕ) → mayStand st r ≡ true → Passed st n → (3 < part r) ⊎ ((part r ≡ 3) × (n < sortKey r))
+passed_on : (st : SetProgress) (n : ℕ) (r : List ℕ) → may_stand st r ≡ true → Passed st n → (3 < part r) ⊎ ((part r ≡ 3) × (n < sort_key r))
 passed_on st n r h p =
     ⊎_elim (λ l. ⊎_elim (λ k. inl (omega arith)) (λ k. inl (omega arith)) p)
     (λ l. let e = l.0 in ⊎_elim (λ k. inl (omega arith)) (λ k. let i = k.0 in let j = k.1 in let m = stand-risen st r h e (λ z. omega arith) in inr (omega arith, omega arith)) p) (stand-out st r h)
 
-passed-after : (st : SetProgress) (n : ℕ) (r : List ℕ) → (3 < part r) ⊎ ((part r ≡ 3) × (n < sortKey r)) → Passed (onward st r) n
+passed-after : (st : SetProgress) (n : ℕ) (r : List ℕ) → (3 < part r) ⊎ ((part r ≡ 3) × (n < sort_key r)) → Passed (onward st r) n
 unfolding onward
 passed-after st n r = ⊎_elim (λ l. inl l) (λ l. let i = l.0 in let j = l.1 in inr (i, omega arith))
 
-untold-one : (n : ℕ) (r : List ℕ) → (3 < part r) ⊎ ((part r ≡ 3) × (n < sortKey r)) → (tellsLegging r && eqb (sortKey r) n) ≡ false
-untold-one n r p = go (tellsLegging r) refl
+untold-one : (n : ℕ) (r : List ℕ) → (3 < part r) ⊎ ((part r ≡ 3) × (n < sort_key r)) → (tells_legging r && eqb (sort_key r) n) ≡ false
+untold-one n r p = go (tells_legging r) refl
   where
-    go : (t : Bool) → tellsLegging r ≡ t → (t && eqb (sortKey r) n) ≡ false
+    go : (t : Bool) → tells_legging r ≡ t → (t && eqb (sort_key r) n) ≡ false
     go false e = refl
-    go true e = let k = leg-part r e in ne_eqb (sortKey r) n (λ z. ⊎_elim (λ l. omega arith) (λ l. let j = l.1 in omega arith) p)
+    go true e = let k = leg-part r e in ne_eqb (sort_key r) n (λ z. ⊎_elim (λ l. omega arith) (λ l. let j = l.1 in omega arith) p)
 
 untold : (n : ℕ) (rs : List (List ℕ)) (st : SetProgress) → InOrder st rs → Passed st n → Untold n rs
 untold n [] st h p = tt
@@ -215,13 +215,13 @@ untold n (r ∷ rs) st h p =
     let q = passed_on st n r h.0 p in
     (untold-one n r q, untold n rs (onward st r) (order-on st r rs h.1) (passed-after st n r q))
 
-passed_here : (st : SetProgress) (r : List ℕ) → tellsLegging r ≡ true → Passed (onward st r) (sortKey r)
+passed_here : (st : SetProgress) (r : List ℕ) → tells_legging r ≡ true → Passed (onward st r) (sort_key r)
 unfolding onward
 passed_here st r t = inr (leg-part r t, omega arith)
 
 alone : (rs : List (List ℕ)) (st : SetProgress) → InOrder st rs → Alone rs
 alone [] st h = tt
-alone (r ∷ rs) st h = (λ t. untold (sortKey r) rs (onward st r) (order-on st r rs h.1) (passed_here st r t), alone rs (onward st r) (order-on st r rs h.1))
+alone (r ∷ rs) st h = (λ t. untold (sort_key r) rs (onward st r) (order-on st r rs h.1) (passed_here st r t), alone rs (onward st r) (order-on st r rs h.1))
 
 alone-front : (front tail : List (List ℕ)) → Each (λ r. part r ≡ 0) front → Alone tail → Alone (front ++ tail)
 alone-front [] tail h a = a
@@ -235,15 +235,15 @@ set-alone rs h = let t = set-tail rs h in rw t.split (alone-front t.front t.tail
 -- nothing follows the record that has it
 abbrev pub Ends : List (List ℕ) → Type 0
 Ends [] = Unit {0}
-Ends (r ∷ rs) = (kindField r ≡ 84 → rs ≡ []) × Ends rs
+Ends (r ∷ rs) = (kind_field r ≡ 84 → rs ≡ []) × Ends rs
 
-reached-part : (r : List ℕ) → kindField r ≡ 84 → part r ≡ 5
-unfolding part tellsEdition tellsRegular tellsComplex tellsLegging tellsGeneration
+reached-part : (r : List ℕ) → kind_field r ≡ 84 → part r ≡ 5
+unfolding part tells_edition tells_regular tells_complex tells_legging tells_generation
 reached-part r k = rw k
 
 part-most : (r : List ℕ) → part r ≤ 5
 unfolding part
-part-most r = go (tellsEdition r) (tellsRegular r || tellsComplex r) (tellsLegging r) (tellsGeneration r) (eqb (kindField r) 84)
+part-most r = go (tells_edition r) (tells_regular r || tells_complex r) (tells_legging r) (tells_generation r) (eqb (kind_field r) 84)
   where
     go : (a b c d e : Bool) → (if a then 1 else if b then 2 else if c then 3 else if d then 4 else if e then 5 else 0) ≤ 5
     go true b c d e = omega arith
@@ -253,16 +253,16 @@ part-most r = go (tellsEdition r) (tellsRegular r || tellsComplex r) (tellsLeggi
     go false false false false true = omega arith
     go false false false false false = omega arith
 
-reached-key : (r : List ℕ) → part r ≡ 5 → sortKey r ≡ 0
-unfolding sortKey
-reached-key r e = let k = eqb-true (kindField r) 84 (sort-of r 5 e).4 in rw (k, e)
+reached-key : (r : List ℕ) → part r ≡ 5 → sort_key r ≡ 0
+unfolding sort_key
+reached-key r e = let k = eqb-true (kind_field r) 84 (sort-of r 5 e).4 in rw (k, e)
 
 ends : (rs : List (List ℕ)) (st : SetProgress) → InOrder st rs → Ends rs
 unfolding onward
 ends [] st h = tt
 ends (r ∷ rs) st h = (λ k. nothing k rs (order-on st r rs h.1), ends rs (onward st r) (order-on st r rs h.1))
   where
-    nothing : kindField r ≡ 84 → (l : List (List ℕ)) → InOrder (onward st r) l → l ≡ []
+    nothing : kind_field r ≡ 84 → (l : List (List ℕ)) → InOrder (onward st r) l → l ≡ []
     nothing k [] o = refl
     nothing k (q ∷ l) o =
         let p = reached-part r k in

@@ -12,18 +12,18 @@ use Rattle.rules.specs.declared.Listed.{Listed}
 use Rattle.rules.specs.declared.Edition.{Edition}
 use Rattle.rules.specs.declared.Generations.{Generations}
 use Rattle.rules.specs.declared.Venue.{Venue}
-use Rattle.rules.specs.Words.{noRegular, noComplex, noLegging, noEdition, noGenerations, venueWith}
+use Rattle.rules.specs.Words.{no_regular, no_complex, no_legging, no_edition, no_generations, venue_with}
 use Rattle.rules.specs.Bytes.{u32}
-use Rattle.rules.specs.Generation.{oneMore}
+use Rattle.rules.specs.Generation.{one_more}
 use Rattle.records.specs.Seen.{Seen, seen, pasted}
 use Rattle.records.proofs.SeenLaws.{plus-in}
-use Rattle.venue_bytes.specs.Held.{editionsAt, reservesAt, ratiosAt, generationsAt, reachedAt, rows, messagesOf, venueBytes, Sized}
-use Rattle.venue_bytes.specs.Held.{regularBytes, complexBytes, leggingBytes, listedBytes, editionBytes, reserveBytes, ratioBytes, generationsBytes}
+use Rattle.venue_bytes.specs.Held.{editions_at, reserves_at, ratios_at, generations_at, reached_at, rows, messages_of, venue_bytes, Sized}
+use Rattle.venue_bytes.specs.Held.{regular_bytes, complex_bytes, legging_bytes, listed_bytes, edition_bytes, reserve_bytes, ratio_bytes, generations_bytes}
 use Rattle.venue_bytes.proofs.Rows.{rows_append, rows-length}
 use Rattle.venue_bytes.proofs.Widths.{regular-width, complex-width, legging-width, listed-width, edition-width, reserve-width, ratio-width}
 use Rattle.venue_bytes.proofs.Widths.{number-width, messages-many, message-at, generations-width}
 use Rattle.venue_writer.proofs.Whole.{regular-part, complex-part, legging-part, series-part, last-part, editions-part, reserves-part, ratios-part, generations-part}
-use Rattle.set_tables.specs.Told.{rowPut, orderRows, complexRows, generationPut}
+use Rattle.set_tables.specs.Told.{row_put, order_rows, complex_rows, generation_put}
 
 -- as many bytes in the place of others
 swapped : (front old rest new : List ℕ) (at : ℕ) → length front ≡ at → length new ≡ length old → pasted (front ++ old ++ rest) at new ≡ front ++ new ++ rest
@@ -33,8 +33,8 @@ swapped front old rest new at e n =
     ap₂ (λ (a b : List ℕ). a ++ new ++ b) (ap (take at) (append_assoc front old rest) ∙ take_at front (old ++ rest) at e) (drop_at (front ++ old) rest (at + length new) m)
 
 -- the same, where they are written if they fit
-swapped-in : (front old rest new : List ℕ) (at : ℕ) → length front ≡ at → length new ≡ length old → rowPut (front ++ old ++ rest) at new ≡ front ++ new ++ rest
-unfolding rowPut seen
+swapped-in : (front old rest new : List ℕ) (at : ℕ) → length front ≡ at → length new ≡ length old → row_put (front ++ old ++ rest) at new ≡ front ++ new ++ rest
+unfolding row_put seen
 swapped-in front old rest new at e n =
     let m = length-append front old in
     let k = length-append (front ++ old) rest in
@@ -86,10 +86,10 @@ module _ {A : Type 0} (row : A → List ℕ) (width : ℕ) (even : (x : A) → l
       ∙ swapped (front ++ before) (row old) (after ++ rest) (row x) (width * i + length front) before-long (even x ∙ sym (even old))
       ∙ sym (around x (set l i x) (set_is l i x inside))
 
-  row_put : (from at : ℕ) (x : A) (bs : List ℕ) → length front ≡ from → at ≡ width * i + from → bs ≡ front ++ rows row l ++ rest → rowPut bs at (row x) ≡ front ++ rows row (set l i x) ++ rest
+  row_put : (from at : ℕ) (x : A) (bs : List ℕ) → length front ≡ from → at ≡ width * i + from → bs ≡ front ++ rows row l ++ rest → row_put bs at (row x) ≡ front ++ rows row (set l i x) ++ rest
   row_put from at x bs f e b =
       let z : at ≡ width * i + length front = omega arith in
-      ap₂ (λ (y : List ℕ) (k : ℕ). rowPut y k (row x)) (b ∙ old-around) z
+      ap₂ (λ (y : List ℕ) (k : ℕ). row_put y k (row x)) (b ∙ old-around) z
       ∙ swapped-in (front ++ before) (row old) (after ++ rest) (row x) (width * i + length front) before-long (even x ∙ sym (even old))
       ∙ sym (around x (set l i x) (set_is l i x inside))
 
@@ -97,138 +97,138 @@ module _ {A : Type 0} (row : A → List ℕ) (width : ℕ) (even : (x : A) → l
 
 module _ (r : List Regular) (c : List Complex) (l : List Legging) (s : List Listed) (e : List Edition) (g : List Generations) (last reached : ℕ) where
   abbrev v : Venue
-  v = venueWith r c l s e g last reached
+  v = venue_with r c l s e g last reached
 
   abbrev R : List ℕ
-  R = rows regularBytes r
+  R = rows regular_bytes r
 
   abbrev C : List ℕ
-  C = rows complexBytes c
+  C = rows complex_bytes c
 
   abbrev L : List ℕ
-  L = rows leggingBytes l
+  L = rows legging_bytes l
 
   abbrev S : List ℕ
-  S = rows listedBytes s
+  S = rows listed_bytes s
 
   abbrev Z : List ℕ
   Z = u32 last
 
   abbrev E : List ℕ
-  E = rows editionBytes e
+  E = rows edition_bytes e
 
   abbrev H : List ℕ
-  H = rows reserveBytes r
+  H = rows reserve_bytes r
 
   abbrev Q : List ℕ
-  Q = rows ratioBytes c
+  Q = rows ratio_bytes c
 
   abbrev N : List ℕ
-  N = rows generationsBytes g
+  N = rows generations_bytes g
 
   abbrev P : List ℕ
   P = u32 reached
 
   module _ (sized : Sized v) (i : ℕ) where
-    pub order-put : (x : Regular) → i < 128 → orderRows (venueBytes v) i x ≡ venueBytes (venueWith (set r i x) c l s e g last reached)
-    unfolding orderRows venueBytes
+    pub order-put : (x : Regular) → i < 128 → order_rows (venue_bytes v) i x ≡ venue_bytes (venue_with (set r i x) c l s e g last reached)
+    unfolding order_rows venue_bytes
     order-put x h =
         let n = sized.regular in
         let k : i < length r = omega arith in
         let z : 14 * i ≡ 14 * i + 0 = omega arith in
-        let after : Sized (venueWith (set r i x) c l s e g last reached) =
+        let after : Sized (venue_with (set r i x) c l s e g last reached) =
         record { regular = length-set r i x ∙ n; complex = sized.complex; legging = sized.legging; series = sized.series; editions = sized.editions; generations = sized.generations } in
-        ap (λ (m : List ℕ). rowPut m (8 * i + reservesAt) (reserveBytes x))
-        (row_put regularBytes 14 regular-width noRegular [] (C ++ L ++ S ++ Z ++ E ++ H ++ Q ++ N ++ P) r i k 0 (14 * i) x (venueBytes v) refl z (simp append_assoc))
-        ∙ row_put reserveBytes 8 reserve-width noRegular (rows regularBytes (set r i x) ++ C ++ L ++ S ++ Z ++ E) (Q ++ N ++ P) r i k reservesAt (8 * i + reservesAt) x
-        ([] ++ rows regularBytes (set r i x) ++ (C ++ L ++ S ++ Z ++ E ++ H ++ Q ++ N ++ P)) (editions-part (venueWith (set r i x) c l s e g last reached) after) refl (simp append_assoc)
+        ap (λ (m : List ℕ). row_put m (8 * i + reserves_at) (reserve_bytes x))
+        (row_put regular_bytes 14 regular-width no_regular [] (C ++ L ++ S ++ Z ++ E ++ H ++ Q ++ N ++ P) r i k 0 (14 * i) x (venue_bytes v) refl z (simp append_assoc))
+        ∙ row_put reserve_bytes 8 reserve-width no_regular (rows regular_bytes (set r i x) ++ C ++ L ++ S ++ Z ++ E) (Q ++ N ++ P) r i k reserves_at (8 * i + reserves_at) x
+        ([] ++ rows regular_bytes (set r i x) ++ (C ++ L ++ S ++ Z ++ E ++ H ++ Q ++ N ++ P)) (editions-part (venue_with (set r i x) c l s e g last reached) after) refl (simp append_assoc)
         ∙ simp append_assoc
 
-    pub complex-put : (x : Complex) → i < 32 → complexRows (venueBytes v) i x ≡ venueBytes (venueWith r (set c i x) l s e g last reached)
-    unfolding complexRows venueBytes
+    pub complex-put : (x : Complex) → i < 32 → complex_rows (venue_bytes v) i x ≡ venue_bytes (venue_with r (set c i x) l s e g last reached)
+    unfolding complex_rows venue_bytes
     complex-put x h =
         let n = sized.complex in
         let k : i < length c = omega arith in
-        let after : Sized (venueWith r (set c i x) l s e g last reached) =
+        let after : Sized (venue_with r (set c i x) l s e g last reached) =
         record { regular = sized.regular; complex = length-set c i x ∙ n; legging = sized.legging; series = sized.series; editions = sized.editions; generations = sized.generations } in
-        ap (λ (m : List ℕ). rowPut m (2 * i + ratiosAt) (ratioBytes x))
-        (row_put complexBytes 17 complex-width noComplex R (L ++ S ++ Z ++ E ++ H ++ Q ++ N ++ P) c i k 1792 (17 * i + 1792) x (venueBytes v) (regular-part v sized) refl (simp append_assoc))
-        ∙ row_put ratioBytes 2 ratio-width noComplex (R ++ rows complexBytes (set c i x) ++ L ++ S ++ Z ++ E ++ H) (N ++ P) c i k ratiosAt (2 * i + ratiosAt) x
-        (R ++ rows complexBytes (set c i x) ++ (L ++ S ++ Z ++ E ++ H ++ Q ++ N ++ P)) (reserves-part (venueWith r (set c i x) l s e g last reached) after) refl (simp append_assoc)
+        ap (λ (m : List ℕ). row_put m (2 * i + ratios_at) (ratio_bytes x))
+        (row_put complex_bytes 17 complex-width no_complex R (L ++ S ++ Z ++ E ++ H ++ Q ++ N ++ P) c i k 1792 (17 * i + 1792) x (venue_bytes v) (regular-part v sized) refl (simp append_assoc))
+        ∙ row_put ratio_bytes 2 ratio-width no_complex (R ++ rows complex_bytes (set c i x) ++ L ++ S ++ Z ++ E ++ H) (N ++ P) c i k ratios_at (2 * i + ratios_at) x
+        (R ++ rows complex_bytes (set c i x) ++ (L ++ S ++ Z ++ E ++ H ++ Q ++ N ++ P)) (reserves-part (venue_with r (set c i x) l s e g last reached) after) refl (simp append_assoc)
         ∙ simp append_assoc
 
-    pub legging-put : (x : Legging) → i < 16 → rowPut (venueBytes v) (12 * i + 2336) (leggingBytes x) ≡ venueBytes (venueWith r c (set l i x) s e g last reached)
-    unfolding venueBytes
+    pub legging-put : (x : Legging) → i < 16 → row_put (venue_bytes v) (12 * i + 2336) (legging_bytes x) ≡ venue_bytes (venue_with r c (set l i x) s e g last reached)
+    unfolding venue_bytes
     legging-put x h =
         let n = sized.legging in
-        row_put leggingBytes 12 legging-width noLegging (R ++ C) (S ++ Z ++ E ++ H ++ Q ++ N ++ P) l i (omega arith) 2336 (12 * i + 2336) x (venueBytes v) (complex-part v sized) refl
+        row_put legging_bytes 12 legging-width no_legging (R ++ C) (S ++ Z ++ E ++ H ++ Q ++ N ++ P) l i (omega arith) 2336 (12 * i + 2336) x (venue_bytes v) (complex-part v sized) refl
         (simp append_assoc) ∙ simp append_assoc
 
-    pub edition-put : (x : Edition) → i < 32 → rowPut (venueBytes v) (10 * i + editionsAt) (editionBytes x) ≡ venueBytes (venueWith r c l s (set e i x) g last reached)
-    unfolding venueBytes
+    pub edition-put : (x : Edition) → i < 32 → row_put (venue_bytes v) (10 * i + editions_at) (edition_bytes x) ≡ venue_bytes (venue_with r c l s (set e i x) g last reached)
+    unfolding venue_bytes
     edition-put x h =
         let n = sized.editions in
-        row_put editionBytes 10 edition-width noEdition (R ++ C ++ L ++ S ++ Z) (H ++ Q ++ N ++ P) e i (omega arith) editionsAt (10 * i + editionsAt) x (venueBytes v) (last-part v sized) refl
+        row_put edition_bytes 10 edition-width no_edition (R ++ C ++ L ++ S ++ Z) (H ++ Q ++ N ++ P) e i (omega arith) editions_at (10 * i + editions_at) x (venue_bytes v) (last-part v sized) refl
         (simp append_assoc) ∙ simp append_assoc
 
     -- a series' generations, one more number behind them
-    module _ (number : ℕ) (h : i < 8) (twenty : length (get_or g i noGenerations).messages ≡ 20) where
+    module _ (number : ℕ) (h : i < 8) (twenty : length (get_or g i no_generations).messages ≡ 20) where
       abbrev ms : List ℕ
-      ms = (get_or g i noGenerations).messages
+      ms = (get_or g i no_generations).messages
 
       abbrev more : Generations
-      more = record { messages = oneMore number ms }
+      more = record { messages = one_more number ms }
 
-      pub generation-put : generationPut (venueBytes v) i number ≡ venueBytes (venueWith r c l s e (set g i (record { messages = oneMore number (get_or g i noGenerations).messages })) last reached)
-      unfolding generationPut venueBytes generationsBytes oneMore rows
+      pub generation-put : generation_put (venue_bytes v) i number ≡ venue_bytes (venue_with r c l s e (set g i (record { messages = one_more number (get_or g i no_generations).messages })) last reached)
+      unfolding generation_put venue_bytes generations_bytes one_more rows
       generation-put =
           let n = sized.generations in
           let k : i < length g = omega arith in
           let F : List ℕ = R ++ C ++ L ++ S ++ Z ++ E ++ H ++ Q in
-          let f : generationsAt ≡ length F = sym (ratios-part v sized) in
-          ap (λ (j : ℕ). pasted (venueBytes v) (80 * i + j) (drop 4 (take 80 (drop (80 * i + j) (venueBytes v))) ++ u32 number)) f
-          ∙ ap (pasted (venueBytes v) (80 * i + length F)) (ap (λ (y : List ℕ). drop 4 y ++ u32 number) (row-there generationsBytes 80 generations-width noGenerations F P g i k) ∙ pushed)
-          ∙ row-swapped generationsBytes 80 generations-width noGenerations F P g i k more
+          let f : generations_at ≡ length F = sym (ratios-part v sized) in
+          ap (λ (j : ℕ). pasted (venue_bytes v) (80 * i + j) (drop 4 (take 80 (drop (80 * i + j) (venue_bytes v))) ++ u32 number)) f
+          ∙ ap (pasted (venue_bytes v) (80 * i + length F)) (ap (λ (y : List ℕ). drop 4 y ++ u32 number) (row-there generations_bytes 80 generations-width no_generations F P g i k) ∙ pushed)
+          ∙ row-swapped generations_bytes 80 generations-width no_generations F P g i k more
         where
           -- the numbers themselves
-          numbers : (x : Generations) → length x.messages ≡ 20 → messagesOf x ≡ x.messages
-          numbers x w = ext_get_or 0 (messagesOf x) x.messages (messages-many x ∙ sym w) (λ j lt. message-at x j (let y = messages-many x in omega arith))
+          numbers : (x : Generations) → length x.messages ≡ 20 → messages_of x ≡ x.messages
+          numbers x w = ext_get_or 0 (messages_of x) x.messages (messages-many x ∙ sym w) (λ j lt. message-at x j (let y = messages-many x in omega arith))
 
           first-gone : (xs : List ℕ) → 0 < length xs → drop 4 (rows u32 xs) ≡ rows u32 (drop 1 xs)
           first-gone [] lt = absurd (omega arith)
           first-gone (x ∷ xs) lt = drop_at (u32 x) (rows u32 xs) 4 (number-width x)
 
-          pushed : drop 4 (generationsBytes (get_or g i noGenerations)) ++ u32 number ≡ generationsBytes more
+          pushed : drop 4 (generations_bytes (get_or g i no_generations)) ++ u32 number ≡ generations_bytes more
           pushed =
-              let many : length (oneMore number ms) ≡ 20 = length-append (drop 1 ms) (number ∷ []) ∙ (let d = length-drop 1 ms in omega arith) in
-              ap (λ (y : List ℕ). drop 4 (rows u32 y) ++ u32 number) (numbers (get_or g i noGenerations) twenty)
+              let many : length (one_more number ms) ≡ 20 = length-append (drop 1 ms) (number ∷ []) ∙ (let d = length-drop 1 ms in omega arith) in
+              ap (λ (y : List ℕ). drop 4 (rows u32 y) ++ u32 number) (numbers (get_or g i no_generations) twenty)
               ∙ ap (λ (y : List ℕ). y ++ u32 number) (first-gone ms (omega arith))
               ∙ ap (λ (y : List ℕ). rows u32 (drop 1 ms) ++ y) (sym (append-nil (u32 number)))
               ∙ sym (ap (rows u32) (numbers more many) ∙ rows_append u32 (drop 1 ms) (number ∷ []))
 
   -- all series' rows, and the two numbers
-  pub series-put : (x : List Listed) → Sized v → length x ≡ 8 → pasted (venueBytes v) 2528 (rows listedBytes x) ≡ venueBytes (venueWith r c l x e g last reached)
-  unfolding venueBytes
+  pub series-put : (x : List Listed) → Sized v → length x ≡ 8 → pasted (venue_bytes v) 2528 (rows listed_bytes x) ≡ venue_bytes (venue_with r c l x e g last reached)
+  unfolding venue_bytes
   series-put x sized n =
-      let a = rows-length listedBytes 9 listed-width x in
-      let b = rows-length listedBytes 9 listed-width s in
+      let a = rows-length listed_bytes 9 listed-width x in
+      let b = rows-length listed_bytes 9 listed-width s in
       let k = sized.series in
-      let split : venueBytes v ≡ R ++ C ++ L ++ S ++ (Z ++ E ++ H ++ Q ++ N ++ P) = simp append_assoc in
-      ap (λ (y : List ℕ). pasted y 2528 (rows listedBytes x)) split
-      ∙ swapped (R ++ C ++ L) S (Z ++ E ++ H ++ Q ++ N ++ P) (rows listedBytes x) 2528 (legging-part v sized) (omega arith)
+      let split : venue_bytes v ≡ R ++ C ++ L ++ S ++ (Z ++ E ++ H ++ Q ++ N ++ P) = simp append_assoc in
+      ap (λ (y : List ℕ). pasted y 2528 (rows listed_bytes x)) split
+      ∙ swapped (R ++ C ++ L) S (Z ++ E ++ H ++ Q ++ N ++ P) (rows listed_bytes x) 2528 (legging-part v sized) (omega arith)
       ∙ simp append_assoc
 
-  pub last-put : (x : ℕ) → Sized v → rowPut (venueBytes v) 2600 (u32 x) ≡ venueBytes (venueWith r c l s e g x reached)
-  unfolding venueBytes
+  pub last-put : (x : ℕ) → Sized v → row_put (venue_bytes v) 2600 (u32 x) ≡ venue_bytes (venue_with r c l s e g x reached)
+  unfolding venue_bytes
   last-put x sized =
-      let split : venueBytes v ≡ R ++ C ++ L ++ S ++ Z ++ (E ++ H ++ Q ++ N ++ P) = simp append_assoc in
-      ap (λ (y : List ℕ). rowPut y 2600 (u32 x)) split
+      let split : venue_bytes v ≡ R ++ C ++ L ++ S ++ Z ++ (E ++ H ++ Q ++ N ++ P) = simp append_assoc in
+      ap (λ (y : List ℕ). row_put y 2600 (u32 x)) split
       ∙ swapped-in (R ++ C ++ L ++ S) Z (E ++ H ++ Q ++ N ++ P) (u32 x) 2600 (series-part v sized) (number-width x ∙ sym (number-width last))
       ∙ simp append_assoc
 
-  pub reached-put : (x : ℕ) → Sized v → rowPut (venueBytes v) reachedAt (u32 x) ≡ venueBytes (venueWith r c l s e g last x)
-  unfolding venueBytes
+  pub reached-put : (x : ℕ) → Sized v → row_put (venue_bytes v) reached_at (u32 x) ≡ venue_bytes (venue_with r c l s e g last x)
+  unfolding venue_bytes
   reached-put x sized =
-      ap (λ (y : List ℕ). rowPut y reachedAt (u32 x)) (sym (append-nil (venueBytes v)))
-      ∙ swapped-in (R ++ C ++ L ++ S ++ Z ++ E ++ H ++ Q ++ N) P [] (u32 x) reachedAt (generations-part v sized) (number-width x ∙ sym (number-width reached))
+      ap (λ (y : List ℕ). row_put y reached_at (u32 x)) (sym (append-nil (venue_bytes v)))
+      ∙ swapped-in (R ++ C ++ L ++ S ++ Z ++ E ++ H ++ Q ++ N) P [] (u32 x) reached_at (generations-part v sized) (number-width x ∙ sym (number-width reached))
       ∙ append-nil _

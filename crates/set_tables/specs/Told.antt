@@ -6,22 +6,22 @@ use Rattle.rules.specs.declared.Legging.{Legging}
 use Rattle.rules.specs.declared.Listed.{Listed}
 use Rattle.rules.specs.declared.Venue.{Venue}
 use Rattle.rules.specs.Base.{if◌then◌else◌, all}
-use Rattle.rules.specs.Words.{placeOf, notListed, venueWith}
-use Rattle.rules.specs.Bytes.{u8_at, u32_at, u32, kindField}
-use Rattle.sets.specs.Set.{broken, row, heldIn, is_set, hasPlace, venueTold, regularTold, complexTold, editionTold, generationTold}
-use Rattle.sets.specs.Set.{tellsRegular, tellsComplex, tellsEdition, tellsLegging, tellsGeneration}
+use Rattle.rules.specs.Words.{place_of, not_listed, venue_with}
+use Rattle.rules.specs.Bytes.{u8_at, u32_at, u32, kind_field}
+use Rattle.sets.specs.Set.{broken, row, held_in, is_set, has_place, venue_told, regular_told, complex_told, edition_told, generation_told}
+use Rattle.sets.specs.Set.{tells_regular, tells_complex, tells_edition, tells_legging, tells_generation}
 use Rattle.records.specs.Seen.{seen, pasted, ◌plus◌}
-use Rattle.venue_bytes.specs.Held.{editionsAt, reservesAt, ratiosAt, generationsAt, reachedAt, venueSize, venueBytes, venueFrom}
-use Rattle.venue_bytes.specs.Held.{regularBytes, reserveBytes, complexBytes, ratioBytes, editionBytes, leggingBytes}
+use Rattle.venue_bytes.specs.Held.{editions_at, reserves_at, ratios_at, generations_at, reached_at, venue_size, venue_bytes, venue_from}
+use Rattle.venue_bytes.specs.Held.{regular_bytes, reserve_bytes, complex_bytes, ratio_bytes, edition_bytes, legging_bytes}
 use Rattle.set_tables.specs.declared.Filled.{Filled}
 
 -- the records that a memory holds; none if one is torn or of a kind or length not the set's
 unfoldable pub row_in : (memory : List ℕ) → List (List ℕ)
-row_in memory = elim (heldIn memory) [ broken ↦ [] | row rs ↦ rs ]
+row_in memory = elim (held_in memory) [ broken ↦ [] | row rs ↦ rs ]
 
 -- the legging order in a record
-unfoldable pub leggingOf : List ℕ → Legging
-leggingOf r = record { parent = u32_at r 4; price = u32_at r 10; quantity = u32_at r 14 }
+unfoldable pub legging_of : List ℕ → Legging
+legging_of r = record { parent = u32_at r 4; price = u32_at r 10; quantity = u32_at r 14 }
 
 -- the status and away prices in the two records of a series
 unfoldable pub listed_of : (status away : List ℕ) → Listed
@@ -29,19 +29,19 @@ listed_of status away = record { status = u8_at status 5; bid = u32_at away 5; o
 
 -- a memory that holds a set, and a venue has a place for each record
 pub record ReadableSet (memory : List ℕ) : Type 0 where
-  pub framed : heldIn memory ≡ row (row_in memory)
+  pub framed : held_in memory ≡ row (row_in memory)
   pub ordered : is_set (row_in memory) ≡ true
-  pub placed : all hasPlace (row_in memory) ≡ true
+  pub placed : all has_place (row_in memory) ≡ true
 
 -- such a memory, and bytes for a venue
 pub record TellingReady (memory venue : List ℕ) : Type 0 where
   pub readable : ReadableSet memory
-  pub size : length venue ≡ venueSize
+  pub size : length venue ≡ venue_size
 
 -- bytes that are a venue's, from which it is read back
 pub record Holds (bs : List ℕ) (v : Venue) : Type 0 where
-  pub bytes : bs ≡ venueBytes v
-  pub back : venueFrom bs ≡ v
+  pub bytes : bs ≡ venue_bytes v
+  pub back : venue_from bs ≡ v
 
 -- What a record writes ------------------------------------------------------------------------
 
@@ -54,58 +54,58 @@ abbrev pub put_of : List ℕ → Filled → Put
 put_of m f = record { memory = m; filled = f }
 
 -- bytes with a row in the place of those at a position
-unfoldable pub rowPut : List ℕ → (at : ℕ) → (bs : List ℕ) → List ℕ
-rowPut m at bs = (seen m at plus bs).memory
+unfoldable pub row_put : List ℕ → (at : ℕ) → (bs : List ℕ) → List ℕ
+row_put m at bs = (seen m at plus bs).memory
 
 -- a regular order's two rows at place n, and a complex order's
-unfoldable pub orderRows : List ℕ → (n : ℕ) → Regular → List ℕ
-orderRows m n o = rowPut (rowPut m (14 * n) (regularBytes o)) (8 * n + reservesAt) (reserveBytes o)
+unfoldable pub order_rows : List ℕ → (n : ℕ) → Regular → List ℕ
+order_rows m n o = row_put (row_put m (14 * n) (regular_bytes o)) (8 * n + reserves_at) (reserve_bytes o)
 
-unfoldable pub complexRows : List ℕ → (n : ℕ) → Complex → List ℕ
-complexRows m n c = rowPut (rowPut m (17 * n + 1792) (complexBytes c)) (2 * n + ratiosAt) (ratioBytes c)
+unfoldable pub complex_rows : List ℕ → (n : ℕ) → Complex → List ℕ
+complex_rows m n c = row_put (row_put m (17 * n + 1792) (complex_bytes c)) (2 * n + ratios_at) (ratio_bytes c)
 
 -- orders and editions go to the first free place of their table
-unfoldable pub orderPut : List ℕ → Filled → (r : List ℕ) → Put
-orderPut m f r = put_of (orderRows m f.regulars (regularTold r)) (record { regulars = f.regulars + 1; complexes = f.complexes; editions = f.editions })
+unfoldable pub order_put : List ℕ → Filled → (r : List ℕ) → Put
+order_put m f r = put_of (order_rows m f.regulars (regular_told r)) (record { regulars = f.regulars + 1; complexes = f.complexes; editions = f.editions })
 
-unfoldable pub complexPut : List ℕ → Filled → (r : List ℕ) → Put
-complexPut m f r = put_of (complexRows m f.complexes (complexTold r)) (record { regulars = f.regulars; complexes = f.complexes + 1; editions = f.editions })
+unfoldable pub complex_put : List ℕ → Filled → (r : List ℕ) → Put
+complex_put m f r = put_of (complex_rows m f.complexes (complex_told r)) (record { regulars = f.regulars; complexes = f.complexes + 1; editions = f.editions })
 
-unfoldable pub editionPut : List ℕ → Filled → (r : List ℕ) → Put
-editionPut m f r =
-    put_of (rowPut m (10 * f.editions + editionsAt) (editionBytes (editionTold r))) (record { regulars = f.regulars; complexes = f.complexes; editions = f.editions + 1 })
+unfoldable pub edition_put : List ℕ → Filled → (r : List ℕ) → Put
+edition_put m f r =
+    put_of (row_put m (10 * f.editions + editions_at) (edition_bytes (edition_told r))) (record { regulars = f.regulars; complexes = f.complexes; editions = f.editions + 1 })
 
 -- a legging order goes to the place in its record
-unfoldable pub leggingPut : List ℕ → (r : List ℕ) → List ℕ
-leggingPut m r = rowPut m (12 * placeOf (u8_at r 8) (u8_at r 9) + 2336) (leggingBytes (leggingOf r))
+unfoldable pub legging_put : List ℕ → (r : List ℕ) → List ℕ
+legging_put m r = row_put m (12 * place_of (u8_at r 8) (u8_at r 9) + 2336) (legging_bytes (legging_of r))
 
 -- one more number in the row of a series' generations, after the others; the oldest goes
-unfoldable pub generationPut : List ℕ → (series number : ℕ) → List ℕ
-generationPut m s n = let at = 80 * s + generationsAt in pasted m at (drop 4 (take 80 (drop at m)) ++ u32 n)
+unfoldable pub generation_put : List ℕ → (series number : ℕ) → List ℕ
+generation_put m s n = let at = 80 * s + generations_at in pasted m at (drop 4 (take 80 (drop at m)) ++ u32 n)
 
 -- the id reached
-unfoldable pub reachedPut : List ℕ → (r : List ℕ) → List ℕ
-reachedPut m r = rowPut m reachedAt (u32 (u32_at r 4))
+unfoldable pub reached_put : List ℕ → (r : List ℕ) → List ℕ
+reached_put m r = row_put m reached_at (u32 (u32_at r 4))
 
 -- what a record leaves of a venue's bytes
-unfoldable pub recordPut : List ℕ → Filled → (r : List ℕ) → Put
-recordPut m f r =
-    if tellsRegular r then orderPut m f r
-    else if tellsComplex r then complexPut m f r
-    else if tellsEdition r then editionPut m f r
-    else if tellsLegging r then put_of (leggingPut m r) f
-    else if tellsGeneration r then put_of (generationPut m (u8_at r 4) (generationTold r)) f
-    else if eqb (kindField r) 84 then put_of (reachedPut m r) f
+unfoldable pub record_put : List ℕ → Filled → (r : List ℕ) → Put
+record_put m f r =
+    if tells_regular r then order_put m f r
+    else if tells_complex r then complex_put m f r
+    else if tells_edition r then edition_put m f r
+    else if tells_legging r then put_of (legging_put m r) f
+    else if tells_generation r then put_of (generation_put m (u8_at r 4) (generation_told r)) f
+    else if eqb (kind_field r) 84 then put_of (reached_put m r) f
     else put_of m f
 
 -- a record that has its fields, and for which there is a place
 pub record RecordReady (m : List ℕ) (f : Filled) (r : List ℕ) : Type 0 where
-  pub size : length m ≡ venueSize
-  pub regular : tellsRegular r ≡ true → (18 ≤ length r) × (f.regulars < 128)
-  pub complex : tellsComplex r ≡ true → (21 ≤ length r) × (f.complexes < 32)
-  pub edition : tellsEdition r ≡ true → f.editions < 32
-  pub generation : tellsGeneration r ≡ true → u8_at r 4 < 8
+  pub size : length m ≡ venue_size
+  pub regular : tells_regular r ≡ true → (18 ≤ length r) × (f.regulars < 128)
+  pub complex : tells_complex r ≡ true → (21 ≤ length r) × (f.complexes < 32)
+  pub edition : tells_edition r ≡ true → f.editions < 32
+  pub generation : tells_generation r ≡ true → u8_at r 4 < 8
 
 -- the venue of the records of a set, without the series and the last id
-unfoldable pub tablesTold : List (List ℕ) → Venue
-tablesTold rs = let v = venueTold rs in venueWith v.regular v.complex v.legging (replicate 8 notListed) v.editions v.generations 0 v.reached
+unfoldable pub tables_told : List (List ℕ) → Venue
+tables_told rs = let v = venue_told rs in venue_with v.regular v.complex v.legging (replicate 8 not_listed) v.editions v.generations 0 v.reached

@@ -1,13 +1,13 @@
 // Writes the bytes of a venue from the records of a set that set_check has accepted.
 ghost use Rattle.std.specs.Prelude.{◌≡◌, [], ◌++◌, ◌≤◌, ◌<◌, length, get_or, drop};
-ghost use Rattle.rules.specs.Words.{placeOf};
-ghost use Rattle.rules.specs.Bytes.{u8_at, u32_at, u32, lengthField};
-ghost use Rattle.sets.specs.Set.{complexTold, generationTold};
-ghost use Rattle.sets.specs.Set.{regularTold, editionTold, venueTold};
+ghost use Rattle.rules.specs.Words.{place_of};
+ghost use Rattle.rules.specs.Bytes.{u8_at, u32_at, u32, length_field};
+ghost use Rattle.sets.specs.Set.{complex_told, generation_told};
+ghost use Rattle.sets.specs.Set.{regular_told, edition_told, venue_told};
 ghost use Rattle.records.specs.Seen.{pasted};
-ghost use Rattle.venue_bytes.specs.Held.{venueSize, listedBytes, rows, venueBytes, venueFrom};
-ghost use Rattle.set_tables.specs.Told.{row_in, ReadableSet, leggingOf, listed_of, tablesTold, Holds};
-ghost use Rattle.set_tables.specs.Told.{TellingReady, RecordReady, put_of, orderPut, complexPut, editionPut, leggingPut, generationPut, reachedPut, recordPut};
+ghost use Rattle.venue_bytes.specs.Held.{venue_size, listed_bytes, rows, venue_bytes, venue_from};
+ghost use Rattle.set_tables.specs.Told.{row_in, ReadableSet, legging_of, listed_of, tables_told, Holds};
+ghost use Rattle.set_tables.specs.Told.{TellingReady, RecordReady, put_of, order_put, complex_put, edition_put, legging_put, generation_put, reached_put, record_put};
 
 use rules::{Complex, Edition, Legging, Listed, Regular};
 
@@ -15,7 +15,7 @@ use rules::{Complex, Edition, Legging, Listed, Regular};
 
 // What the order in a record shows: all of it where the record is of kind 1.
 fn display_told(r: &[u8]) -> u32
-    ensures { result ≡ (regularTold r.now).display }
+    ensures { result ≡ (regular_told r.now).display }
 {
     if set_check::kind_of(r) == 9 {
         return wire::u32_at(r, 18);
@@ -26,7 +26,7 @@ fn display_told(r: &[u8]) -> u32
 // The regular order in a record.
 fn regular_told(r: &[u8]) -> Regular
     requires { 18 ≤ length r.now }
-    ensures { result ≡ regularTold r.now }
+    ensures { result ≡ regular_told r.now }
 {
     wire::order_at(r, display_told(r))
 }
@@ -34,7 +34,7 @@ fn regular_told(r: &[u8]) -> Regular
 // The complex order in a record.
 fn complex_told(r: &[u8]) -> Complex
     requires { 21 ≤ length r.now }
-    ensures { result ≡ complexTold r.now }
+    ensures { result ≡ complex_told r.now }
 {
     if set_check::kind_of(r) == 10 {
         return wire::two_leg_at(r, wire::u8_at(r, 21), wire::u8_at(r, 22));
@@ -44,7 +44,7 @@ fn complex_told(r: &[u8]) -> Complex
 
 // The edition in a record.
 fn edition_told(r: &[u8]) -> Edition
-    ensures { result ≡ editionTold r.now }
+    ensures { result ≡ edition_told r.now }
 {
     if set_check::kind_of(r) == 8 {
         return Edition {
@@ -64,7 +64,7 @@ fn edition_told(r: &[u8]) -> Edition
 
 // The legging order in a record.
 fn legging_told(r: &[u8]) -> Legging
-    ensures { result ≡ leggingOf r.now }
+    ensures { result ≡ legging_of r.now }
 {
     Legging {
         parent: wire::u32_at(r, 4),
@@ -97,7 +97,7 @@ pub struct Filled {
 // Writes the two rows of the regular order in a record, at the first free place.
 fn put_order(venue: &mut [u8], done: Filled, r: &[u8]) -> Filled
     requires { (18 ≤ length r.now) × (done.regulars < 128) }
-    ensures { put_of venue.new result ≡ orderPut venue.old done r.now }
+    ensures { put_of venue.new result ≡ order_put venue.old done r.now }
 {
     let n = done.regulars;
     let o = regular_told(r);
@@ -113,7 +113,7 @@ fn put_order(venue: &mut [u8], done: Filled, r: &[u8]) -> Filled
 // Writes the two rows of the complex order in a record, at the first free place.
 fn put_complex(venue: &mut [u8], done: Filled, r: &[u8]) -> Filled
     requires { (21 ≤ length r.now) × (done.complexes < 32) }
-    ensures { put_of venue.new result ≡ complexPut venue.old done r.now }
+    ensures { put_of venue.new result ≡ complex_put venue.old done r.now }
 {
     let n = done.complexes;
     let c = complex_told(r);
@@ -129,7 +129,7 @@ fn put_complex(venue: &mut [u8], done: Filled, r: &[u8]) -> Filled
 // Writes the row of the edition in a record, at the first free place.
 fn put_edition(venue: &mut [u8], done: Filled, r: &[u8]) -> Filled
     requires { done.editions < 32 }
-    ensures { put_of venue.new result ≡ editionPut venue.old done r.now }
+    ensures { put_of venue.new result ≡ edition_put venue.old done r.now }
 {
     let n = done.editions;
     let e = edition_told(r);
@@ -143,7 +143,7 @@ fn put_edition(venue: &mut [u8], done: Filled, r: &[u8]) -> Filled
 
 // Writes the row of the legging order in a record, at its place.
 fn put_legging(venue: &mut [u8], r: &[u8])
-    ensures { venue.new ≡ leggingPut venue.old r.now }
+    ensures { venue.new ≡ legging_put venue.old r.now }
 {
     let n = set_check::place_of(r) as usize;
     let l = legging_told(r);
@@ -166,8 +166,8 @@ fn push(row: &mut [u8], number: u32)
 
 // Adds the generation in a record to the row of its series.
 fn put_generation(venue: &mut [u8], r: &[u8])
-    requires { (length venue.old ≡ venueSize) × (u8_at r.now 4 < 8) }
-    ensures { venue.new ≡ generationPut venue.old (u8_at r.now 4) (generationTold r.now) }
+    requires { (length venue.old ≡ venue_size) × (u8_at r.now 4 < 8) }
+    ensures { venue.new ≡ generation_put venue.old (u8_at r.now 4) (generation_told r.now) }
 {
     let series = wire::u8_at(r, 4) as usize;
     let number = set_check::told_of(r);
@@ -178,7 +178,7 @@ fn put_generation(venue: &mut [u8], r: &[u8])
 
 // Writes the id reached in a record.
 fn put_reached(venue: &mut [u8], r: &[u8])
-    ensures { venue.new ≡ reachedPut venue.old r.now }
+    ensures { venue.new ≡ reached_put venue.old r.now }
 {
     let id = records::bytes4(wire::u32_at(r, 4));
     records::put(venue, venue_bytes::REACHED_AT, &id);
@@ -187,7 +187,7 @@ fn put_reached(venue: &mut [u8], r: &[u8])
 // Writes what a record has. The first 17 records of a set write nothing here.
 fn put_record(venue: &mut [u8], done: Filled, r: &[u8]) -> Filled
     requires { RecordReady venue.old done r.now }
-    ensures { put_of venue.new result ≡ recordPut venue.old done r.now }
+    ensures { put_of venue.new result ≡ record_put venue.old done r.now }
 {
     if set_check::tells_regular(r) {
         return put_order(venue, done, r);
@@ -216,7 +216,7 @@ fn put_record(venue: &mut [u8], done: Filled, r: &[u8]) -> Filled
 
 // The length of the record at a position; 0 at the end of the set.
 fn size_at(memory: &[u8], at: usize) -> usize
-    ensures { result ≡ lengthField (drop at memory.now) }
+    ensures { result ≡ length_field (drop at memory.now) }
 {
     wire::u16_at(memory, at) as usize
 }
@@ -224,7 +224,7 @@ fn size_at(memory: &[u8], at: usize) -> usize
 // Writes the orders, legging orders, editions, generations and the id reached of a set, and zeros for all else.
 fn put_records(memory: &[u8], venue: &mut [u8])
     requires { TellingReady memory.now venue.old }
-    ensures { venue.new ≡ venueBytes (tablesTold (row_in memory.now)) }
+    ensures { venue.new ≡ venue_bytes (tables_told (row_in memory.now)) }
 {
     records::zero_from(venue, 0);
     let mut done = Filled {
@@ -245,7 +245,7 @@ fn put_records(memory: &[u8], venue: &mut [u8])
 // Writes the status and away prices of every series of a set.
 fn put_series(memory: &[u8], venue: &mut [u8])
     requires { TellingReady memory.now venue.old }
-    ensures { venue.new ≡ pasted venue.old 2528 (rows listedBytes (venueTold (row_in memory.now)).series) }
+    ensures { venue.new ≡ pasted venue.old 2528 (rows listed_bytes (venue_told (row_in memory.now)).series) }
 {
     let mut at = size_at(memory, 0);
     let mut s: usize = 0;
@@ -271,7 +271,7 @@ pub fn first_told(memory: &[u8], at: usize) -> u32
 // Writes the bytes of the venue of a set's records. Reading the bytes gives that venue back.
 pub fn put_told(memory: &[u8], venue: &mut [u8])
     requires { TellingReady memory.now venue.old }
-    ensures { Holds venue.new (venueTold (row_in memory.now)) }
+    ensures { Holds venue.new (venue_told (row_in memory.now)) }
 {
     put_records(memory, venue);
     put_series(memory, venue);

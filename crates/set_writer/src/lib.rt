@@ -1,11 +1,11 @@
 // Writes the venue that bytes stand for, with its message number, as a set of records into the caller's memory.
 ghost use Rattle.std.specs.Prelude.{◌≡◌, length};
-ghost use Rattle.places.specs.Layout.{venueOf};
-ghost use Rattle.sets.specs.Set.{setOf, joined, notWritten, writeSet};
-ghost use Rattle.set_parts.specs.SetMemory.{setMemory, ◌adds◌};
-ghost use Rattle.set_writer.specs.Saving.{savedOf};
+ghost use Rattle.places.specs.Layout.{venue_of};
+ghost use Rattle.sets.specs.Set.{set_of, joined, not_written, write_set};
+ghost use Rattle.set_parts.specs.SetMemory.{set_memory, ◌adds◌};
+ghost use Rattle.set_writer.specs.Saving.{saved_of};
 ghost use Rattle.places.specs.Requirements.{DenseNumbers};
-ghost use Rattle.venue_bytes.specs.Held.{venueSize, venueFrom};
+ghost use Rattle.venue_bytes.specs.Held.{venue_size, venue_from};
 
 // What a writing call returns: its number, and how many bytes the set has.
 #[derive(Drop)]
@@ -19,7 +19,7 @@ pub struct Saved {
 // Writes the set of the venue in the slice from the front of the memory on. Returns a position past the end where the set does not fit.
 fn put_set(numbers: &[u32], number: u32, out: &mut [u8]) -> usize
     requires { DenseNumbers numbers.now }
-    ensures { setMemory out.new result ≡ setMemory out.old 0 adds joined (setOf number (venueOf numbers.now)) }
+    ensures { set_memory out.new result ≡ set_memory out.old 0 adds joined (set_of number (venue_of numbers.now)) }
 {
     let first = set_parts::put_first(out, 0, number, places::last_id(numbers));
     let series = set_parts::put_series(numbers, out, first);
@@ -32,7 +32,7 @@ fn put_set(numbers: &[u32], number: u32, out: &mut [u8]) -> usize
 
 // A refused call: writes zeros to the whole memory, and returns 0 bytes.
 fn refuse(number: u8, memory: &mut [u8]) -> Saved
-    ensures { savedOf result memory.new ≡ notWritten number (length memory.old) }
+    ensures { saved_of result memory.new ≡ not_written number (length memory.old) }
 {
     records::zero_from(memory, 0);
     Saved { number, written: 0 }
@@ -40,8 +40,8 @@ fn refuse(number: u8, memory: &mut [u8]) -> Saved
 
 // Writes the venue that the bytes stand for and the number of its last message as a set from the front of the memory on, and zeros after it.
 pub fn write_set(venue: &[u8], number: u32, memory: &mut [u8]) -> Saved
-    requires { length venue.now ≡ venueSize }
-    ensures { savedOf result memory.new ≡ writeSet number (venueFrom venue.now) (length memory.old) }
+    requires { length venue.now ≡ venue_size }
+    ensures { saved_of result memory.new ≡ write_set number (venue_from venue.now) (length memory.old) }
 {
     let mut numbers = [0u32; places::SIZE];
     if !soundness::load_bytes_ready(&mut numbers, venue, number) {

@@ -9,7 +9,7 @@ use lib.ListN.{length}
 use borrow.Author.Tests.{eq-eqb, lt-ltb}
 use Rattle.rules.specs.Base.{if◌then◌else◌, all, keep}
 use Rattle.rules.proofs.Tests.{and_in, and_l, and_r}
-use Rattle.sets.specs.Set.{inOrder, sortKey, mayFollow, part}
+use Rattle.sets.specs.Set.{in_order, sort_key, may_follow, part}
 
 -- each of a list is so
 abbrev pub Each : {A : Type 0} → (A → Type 0) → List A → Type 0
@@ -97,22 +97,22 @@ abbrev pub Of : (k : ℕ) → List (List ℕ) → Type 0
 Of k = Each (λ r. part r ≡ k)
 
 -- a row, and one after it whose records may stand after each of the first
-pub order-append : (a b : List (List ℕ)) → Each (λ q. Each (λ r. mayFollow q r ≡ true) b) a → inOrder a ≡ true → inOrder b ≡ true → inOrder (a ++ b) ≡ true
-unfolding inOrder
+pub order-append : (a b : List (List ℕ)) → Each (λ q. Each (λ r. may_follow q r ≡ true) b) a → in_order a ≡ true → in_order b ≡ true → in_order (a ++ b) ≡ true
+unfolding in_order
 order-append [] b h x y = y
 order-append (q ∷ []) [] h x y = refl
-order-append (q ∷ []) (r ∷ b) h x y = and_in (mayFollow q r) (inOrder (r ∷ b)) h.0.0 y
+order-append (q ∷ []) (r ∷ b) h x y = and_in (may_follow q r) (in_order (r ∷ b)) h.0.0 y
 order-append (q ∷ r ∷ a) b h x y =
-    and_in (mayFollow q r) (inOrder (r ∷ a ++ b)) (and_l (mayFollow q r) (inOrder (r ∷ a)) x) (order-append (r ∷ a) b h.1 (and_r (mayFollow q r) (inOrder (r ∷ a)) x) y)
+    and_in (may_follow q r) (in_order (r ∷ a ++ b)) (and_l (may_follow q r) (in_order (r ∷ a)) x) (order-append (r ∷ a) b h.1 (and_r (may_follow q r) (in_order (r ∷ a)) x) y)
 
 -- a row of one part, and a row of later ones after it
-pub order-join : (k : ℕ) (a b : List (List ℕ)) → Of k a → From (suc k) b → inOrder a ≡ true → inOrder b ≡ true → inOrder (a ++ b) ≡ true
+pub order-join : (k : ℕ) (a b : List (List ℕ)) → Of k a → From (suc k) b → in_order a ≡ true → in_order b ≡ true → in_order (a ++ b) ≡ true
 order-join k a b h l x y = order-append a b
-    (each_more (λ q. part q ≡ k) (λ q. Each (λ r. mayFollow q r ≡ true) b)
-    (λ q e. each_more (λ r. suc k ≤ part r) (λ r. mayFollow q r ≡ true) (later q e) b l) a h) x y
+    (each_more (λ q. part q ≡ k) (λ q. Each (λ r. may_follow q r ≡ true) b)
+    (λ q e. each_more (λ r. suc k ≤ part r) (λ r. may_follow q r ≡ true) (later q e) b l) a h) x y
   where
-    later : (q : List ℕ) → part q ≡ k → (r : List ℕ) → suc k ≤ part r → mayFollow q r ≡ true
-    later q e r le = unfold mayFollow in (rw (lt-ltb (part q) (part r) (omega arith)))
+    later : (q : List ℕ) → part q ≡ k → (r : List ℕ) → suc k ≤ part r → may_follow q r ≡ true
+    later q e r le = unfold may_follow in (rw (lt-ltb (part q) (part r) (omega arith)))
 
 -- numbers that rise, from `low` on
 abbrev pub Rising : {A : Type 0} → (A → ℕ) → (low : ℕ) → List A → Type 0
@@ -128,11 +128,11 @@ rising-map f m g low [] e h = tt
 rising-map f m g low (x ∷ l) e h = rw e.0 ((h.0, rising-map f m g (suc (f x)) l e.1 h.1))
 
 -- a part whose marks rise is in order
-pub rising-order : (k low : ℕ) (l : List (List ℕ)) → Of k l → Rising sortKey low l → inOrder l ≡ true
-unfolding inOrder
+pub rising-order : (k low : ℕ) (l : List (List ℕ)) → Of k l → Rising sort_key low l → in_order l ≡ true
+unfolding in_order
 rising-order k low [] h u = refl
 rising-order k low (q ∷ []) h u = refl
-rising-order k low (q ∷ r ∷ l) h u = and_in (mayFollow q r) (inOrder (r ∷ l)) (risen h.0 h.1.0 u.1.0) (rising-order k (suc (sortKey q)) (r ∷ l) h.1 u.1)
+rising-order k low (q ∷ r ∷ l) h u = and_in (may_follow q r) (in_order (r ∷ l)) (risen h.0 h.1.0 u.1.0) (rising-order k (suc (sort_key q)) (r ∷ l) h.1 u.1)
   where
-    risen : part q ≡ k → part r ≡ k → suc (sortKey q) ≤ sortKey r → mayFollow q r ≡ true
-    risen e d lt = unfold mayFollow in (rw (e, d, eq-eqb k k refl, lt-ltb (sortKey q) (sortKey r) lt, or-true (ltb k k)))
+    risen : part q ≡ k → part r ≡ k → suc (sort_key q) ≤ sort_key r → may_follow q r ≡ true
+    risen e d lt = unfold may_follow in (rw (e, d, eq-eqb k k refl, lt-ltb (sort_key q) (sort_key r) lt, or-true (ltb k k)))

@@ -9,11 +9,11 @@ use lib.ListN.{length, get_or, replicate}
 use borrow.Author.Tests.{eq-eqb, le-leb, le-ltb, leb-true, lt-ltb, ne_eqb}
 use Rattle.rules.specs.declared.Generations.{Generations}
 use Rattle.rules.specs.Base.{if◌then◌else◌, all, held, keep}
-use Rattle.rules.specs.Words.{noGenerations}
+use Rattle.rules.specs.Words.{no_generations}
 use Rattle.rules.specs.Records.{FourBytes}
 use Rattle.rules.specs.Sound.{unfallen}
 use Rattle.rules.proofs.Tests.{and_in, and_l, and_r, free-none, held-pos, if-same, pos-held}
-use Rattle.sets.specs.Set.{generationRecord, generationRecords, generationTold, generationsTold, inOrder, sortKey, mayFollow, ofSeries, tellsGeneration}
+use Rattle.sets.specs.Set.{generation_record, generation_records, generation_told, generations_told, in_order, sort_key, may_follow, of_series, tells_generation}
 use Rattle.sets.proofs.Lists.{Each, each_append, each_map, each_more, keep_append, keep-few, map_back, order-append}
 use Rattle.sets.proofs.Fine.{Fine, Good, generation-fine, good}
 use Rattle.sets.proofs.Records.{generation-kind, generation-series, generation-tells}
@@ -78,116 +78,116 @@ unfallen-kept low (n ∷ l) h = go (held n) refl (unfallen-kept n l (and_r (leb 
 -- Their records -------------------------------------------------------------------------------
 
 module _ (s : ℕ) (a : s ≤ 7) where
-  numbers-fine : (ns : List ℕ) → Each Some ns → Each (Fine 4 s) (map (generationRecord s) ns)
-  numbers-fine ns h = each_map (Fine 4 s) (generationRecord s) ns (each_more Some (λ n. Fine 4 s (generationRecord s n)) (λ n f. generation-fine s n a f.0 f.1) ns h)
+  numbers-fine : (ns : List ℕ) → Each Some ns → Each (Fine 4 s) (map (generation_record s) ns)
+  numbers-fine ns h = each_map (Fine 4 s) (generation_record s) ns (each_more Some (λ n. Fine 4 s (generation_record s n)) (λ n f. generation-fine s n a f.0 f.1) ns h)
 
-  numbers-order : (low : ℕ) (ns : List ℕ) → Each Some ns → unfallen low ns ≡ true → inOrder (map (generationRecord s) ns) ≡ true
-  unfolding inOrder unfallen
+  numbers-order : (low : ℕ) (ns : List ℕ) → Each Some ns → unfallen low ns ≡ true → in_order (map (generation_record s) ns) ≡ true
+  unfolding in_order unfallen
   numbers-order low [] h u = refl
   numbers-order low (m ∷ []) h u = refl
   numbers-order low (m ∷ n ∷ ns) h u =
-      and_in (mayFollow q r) (inOrder (r ∷ map (generationRecord s) ns)) follows (numbers-order m (n ∷ ns) h.1 (and_r (leb low m) (unfallen m (n ∷ ns)) u))
+      and_in (may_follow q r) (in_order (r ∷ map (generation_record s) ns)) follows (numbers-order m (n ∷ ns) h.1 (and_r (leb low m) (unfallen m (n ∷ ns)) u))
     where
       q : List ℕ
-      q = generationRecord s m
+      q = generation_record s m
 
       r : List ℕ
-      r = generationRecord s n
+      r = generation_record s n
 
       le : leb m n ≡ true
       le = and_l (leb m n) (unfallen n ns) (and_r (leb low m) (unfallen m (n ∷ ns)) u)
 
-      follows : mayFollow q r ≡ true
+      follows : may_follow q r ≡ true
       follows =
           let f = generation-fine s m a h.0.0 h.0.1 in
           let g = generation-fine s n a h.1.0.0 h.1.0.1 in
-          unfold mayFollow generationTold in (rw (f.of, g.of, f.marked, g.marked, le-ltb s s (omega arith), eq-eqb s s refl, generation-tells s m h.0.0, generation-tells s n h.1.0.0, le))
+          unfold may_follow generation_told in (rw (f.of, g.of, f.marked, g.marked, le-ltb s s (omega arith), eq-eqb s s refl, generation-tells s m h.0.0, generation-tells s n h.1.0.0, le))
 
 -- a series' block of records
-block-fine : (s : ℕ) (g : Generations) → s ≤ 7 → Counted g → Each (Fine 4 s) (map (generationRecord s) (keep held g.messages))
+block-fine : (s : ℕ) (g : Generations) → s ≤ 7 → Counted g → Each (Fine 4 s) (map (generation_record s) (keep held g.messages))
 block-fine s g a c = numbers-fine s a (keep held g.messages) (some-kept g.messages c.fits)
 
-pub generations-good : (s : ℕ) (gs : List Generations) → s + length gs ≤ 8 → Each Counted gs → Each (λ r. Good 4 r × (s ≤ sortKey r)) (generationRecords s gs)
-unfolding generationRecords
+pub generations-good : (s : ℕ) (gs : List Generations) → s + length gs ≤ 8 → Each Counted gs → Each (λ r. Good 4 r × (s ≤ sort_key r)) (generation_records s gs)
+unfolding generation_records
 generations-good s [] le h = tt
 generations-good s (g ∷ gs) le h =
-    each_append (λ r. Good 4 r × (s ≤ sortKey r)) (map (generationRecord s) (keep held g.messages)) (generationRecords (suc s) gs)
-    (each_more (Fine 4 s) (λ r. Good 4 r × (s ≤ sortKey r)) (λ r f. (good 4 s r f, (let z = f.marked in omega arith)))
-    (map (generationRecord s) (keep held g.messages)) (block-fine s g (omega arith) h.0))
-    (each_more (λ r. Good 4 r × (suc s ≤ sortKey r)) (λ r. Good 4 r × (s ≤ sortKey r)) (λ r f. (f.0, omega arith)) (generationRecords (suc s) gs) (generations-good (suc s) gs (omega arith) h.1))
+    each_append (λ r. Good 4 r × (s ≤ sort_key r)) (map (generation_record s) (keep held g.messages)) (generation_records (suc s) gs)
+    (each_more (Fine 4 s) (λ r. Good 4 r × (s ≤ sort_key r)) (λ r f. (good 4 s r f, (let z = f.marked in omega arith)))
+    (map (generation_record s) (keep held g.messages)) (block-fine s g (omega arith) h.0))
+    (each_more (λ r. Good 4 r × (suc s ≤ sort_key r)) (λ r. Good 4 r × (s ≤ sort_key r)) (λ r f. (f.0, omega arith)) (generation_records (suc s) gs) (generations-good (suc s) gs (omega arith) h.1))
 
 -- a series' record, and one of a later series
-later-follows : (s : ℕ) (q r : List ℕ) → Fine 4 s q → Good 4 r → suc s ≤ sortKey r → mayFollow q r ≡ true
-unfolding mayFollow
-later-follows s q r f g lt = rw (f.of, g.of, f.marked, lt-ltb s (sortKey r) lt)
+later-follows : (s : ℕ) (q r : List ℕ) → Fine 4 s q → Good 4 r → suc s ≤ sort_key r → may_follow q r ≡ true
+unfolding may_follow
+later-follows s q r f g lt = rw (f.of, g.of, f.marked, lt-ltb s (sort_key r) lt)
 
-pub generations-order : (s : ℕ) (gs : List Generations) → s + length gs ≤ 8 → Each Counted gs → inOrder (generationRecords s gs) ≡ true
-unfolding generationRecords
-generations-order s [] le h = unfold inOrder in refl
+pub generations-order : (s : ℕ) (gs : List Generations) → s + length gs ≤ 8 → Each Counted gs → in_order (generation_records s gs) ≡ true
+unfolding generation_records
+generations-order s [] le h = unfold in_order in refl
 generations-order s (g ∷ gs) le h =
-    order-append (map (generationRecord s) (keep held g.messages)) (generationRecords (suc s) gs)
-    (each_more (Fine 4 s) (λ q. Each (λ r. mayFollow q r ≡ true) (generationRecords (suc s) gs))
-    (λ q f. each_more (λ r. Good 4 r × (suc s ≤ sortKey r)) (λ r. mayFollow q r ≡ true) (λ r d. later-follows s q r f d.0 d.1)
-    (generationRecords (suc s) gs) (generations-good (suc s) gs (omega arith) h.1))
-    (map (generationRecord s) (keep held g.messages)) (block-fine s g (omega arith) h.0))
+    order-append (map (generation_record s) (keep held g.messages)) (generation_records (suc s) gs)
+    (each_more (Fine 4 s) (λ q. Each (λ r. may_follow q r ≡ true) (generation_records (suc s) gs))
+    (λ q f. each_more (λ r. Good 4 r × (suc s ≤ sort_key r)) (λ r. may_follow q r ≡ true) (λ r d. later-follows s q r f d.0 d.1)
+    (generation_records (suc s) gs) (generations-good (suc s) gs (omega arith) h.1))
+    (map (generation_record s) (keep held g.messages)) (block-fine s g (omega arith) h.0))
     (numbers-order s (omega arith) 0 (keep held g.messages) (some-kept g.messages h.0.fits) (unfallen-kept 0 g.messages h.0.rises))
     (generations-order (suc s) gs (omega arith) h.1)
 
 -- What is kept of a series --------------------------------------------------------------------
 
-same-series : (s t : ℕ) → s ≤ 7 → (n : ℕ) → ofSeries t (generationRecord s n) ≡ eqb s t
-unfolding ofSeries tellsGeneration
+same-series : (s t : ℕ) → s ≤ 7 → (n : ℕ) → of_series t (generation_record s n) ≡ eqb s t
+unfolding of_series tells_generation
 same-series s t a n = rw (generation-kind s n, generation-series s n (omega arith))
 
-block-kept : (s t : ℕ) → s ≤ 7 → (ns : List ℕ) → keep (ofSeries t) (map (generationRecord s) ns) ≡ (if eqb s t then map (generationRecord s) ns else [])
+block-kept : (s t : ℕ) → s ≤ 7 → (ns : List ℕ) → keep (of_series t) (map (generation_record s) ns) ≡ (if eqb s t then map (generation_record s) ns else [])
 unfolding keep
 block-kept s t a [] = sym (if-same (eqb s t) [])
 block-kept s t a (n ∷ ns) = rw (same-series s t a n, block-kept s t a ns) (go (eqb s t))
   where
-    go : (b : Bool) → (if b then generationRecord s n ∷ (if b then map (generationRecord s) ns else []) else
-        (if b then map (generationRecord s) ns else [])) ≡ (if b then generationRecord s n ∷ map (generationRecord s) ns else [])
+    go : (b : Bool) → (if b then generation_record s n ∷ (if b then map (generation_record s) ns else []) else
+        (if b then map (generation_record s) ns else [])) ≡ (if b then generation_record s n ∷ map (generation_record s) ns else [])
     go true = refl
     go false = refl
 
-before-kept : (s t : ℕ) (gs : List Generations) → s + length gs ≤ 8 → t < s → keep (ofSeries t) (generationRecords s gs) ≡ []
-unfolding generationRecords
+before-kept : (s t : ℕ) (gs : List Generations) → s + length gs ≤ 8 → t < s → keep (of_series t) (generation_records s gs) ≡ []
+unfolding generation_records
 before-kept s t [] le lt = unfold keep in refl
 before-kept s t (g ∷ gs) le lt = rw (
-  keep_append (ofSeries t) (map (generationRecord s) (keep held g.messages)) (generationRecords (suc s) gs),
+  keep_append (of_series t) (map (generation_record s) (keep held g.messages)) (generation_records (suc s) gs),
   block-kept s t (omega arith) (keep held g.messages),
   ne_eqb s t (λ e. omega arith),
   before-kept (suc s) t gs (omega arith) (omega arith),
 )
 
 -- the records of series t = s + i
-pub series-kept : (s i : ℕ) (gs : List Generations) → s + length gs ≤ 8 → (t : ℕ) → s + i ≡ t → keep (ofSeries t) (generationRecords s gs) ≡ map
-    (generationRecord t) (keep held (get_or gs i noGenerations).messages)
-unfolding generationRecords
+pub series-kept : (s i : ℕ) (gs : List Generations) → s + length gs ≤ 8 → (t : ℕ) → s + i ≡ t → keep (of_series t) (generation_records s gs) ≡ map
+    (generation_record t) (keep held (get_or gs i no_generations).messages)
+unfolding generation_records
 series-kept s i [] le t e = unfold keep in refl
 series-kept s zero (g ∷ gs) le t e =
     let z : s ≡ t = omega arith in
     rw (
       z,
-      keep_append (ofSeries t) (map (generationRecord t) (keep held g.messages)) (generationRecords (suc t) gs),
+      keep_append (of_series t) (map (generation_record t) (keep held g.messages)) (generation_records (suc t) gs),
       block-kept t t (omega arith) (keep held g.messages),
       eq-eqb t t refl,
       before-kept (suc t) t gs (omega arith) (omega arith),
-      append-nil (map (generationRecord t) (keep held g.messages)),
+      append-nil (map (generation_record t) (keep held g.messages)),
     )
 series-kept s (suc i) (g ∷ gs) le t e =
     rw (
-      keep_append (ofSeries t) (map (generationRecord s) (keep held g.messages)) (generationRecords (suc s) gs),
+      keep_append (of_series t) (map (generation_record s) (keep held g.messages)) (generation_records (suc s) gs),
       block-kept s t (omega arith) (keep held g.messages),
       ne_eqb s t (λ q. omega arith),
       series-kept (suc s) i gs (omega arith) t (omega arith),
     )
 
 -- 20 numbers, zeros first
-pub twenty-told : (s : ℕ) (g : Generations) → s ≤ 7 → Counted g → (rs : List (List ℕ)) → keep (ofSeries s) rs ≡ map (generationRecord s) (keep held g.messages) → generationsTold rs s ≡ g
-unfolding generationsTold
+pub twenty-told : (s : ℕ) (g : Generations) → s ≤ 7 → Counted g → (rs : List (List ℕ)) → keep (of_series s) rs ≡ map (generation_record s) (keep held g.messages) → generations_told rs s ≡ g
+unfolding generations_told
 twenty-told s g a c rs e =
-    let b : map generationTold (map (generationRecord s) (keep held g.messages)) ≡ keep held g.messages = map_back (generationRecord s)
-    generationTold (keep held g.messages)
-    (each_more Some (λ n. generationTold (generationRecord s n) ≡ n) (λ n f. unfold generationTold in (generation-tells s n f.0))
+    let b : map generation_told (map (generation_record s) (keep held g.messages)) ≡ keep held g.messages = map_back (generation_record s)
+    generation_told (keep held g.messages)
+    (each_more Some (λ n. generation_told (generation_record s n) ≡ n) (λ n f. unfold generation_told in (generation-tells s n f.0))
     (keep held g.messages) (some-kept g.messages c.fits)) in
     rw (e, b, ← c.twenty, zeros-first 0 g.messages c.rises)

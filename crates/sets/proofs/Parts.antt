@@ -5,8 +5,8 @@ use mathlib.Core.List.{List}
 use Prim.Native.Nat.{ℕ}
 use lib.Dec.{eqb}
 use borrow.Author.Tests.{eqb-true}
-use Rattle.rules.specs.Bytes.{kindField}
-use Rattle.sets.specs.Set.{part, tellsComplex, tellsEdition, tellsGeneration, tellsLegging, tellsRegular}
+use Rattle.rules.specs.Bytes.{kind_field}
+use Rattle.sets.specs.Set.{part, tells_complex, tells_edition, tells_generation, tells_legging, tells_regular}
 
 -- a number is this one, or it is not
 pub whether : {P : Type 0} (n k : ℕ) → (n ≡ k → P) → (eqb n k ≡ false → P) → P
@@ -19,13 +19,13 @@ whether {P} n k f g = go (eqb n k) refl
 -- what a record of a part is: an edition, a resting order, a legging order, a generation, the id reached
 abbrev pub Sort : (r : List ℕ) (k : ℕ) → Type 0
 Sort r k =
-    (tellsEdition r ≡ eqb k 1) × ((tellsRegular r || tellsComplex r) ≡ eqb k 2) × (tellsLegging r ≡ eqb k 3) × (tellsGeneration r ≡ eqb k 4)
-    × (eqb (kindField r) 84 ≡ eqb k 5)
+    (tells_edition r ≡ eqb k 1) × ((tells_regular r || tells_complex r) ≡ eqb k 2) × (tells_legging r ≡ eqb k 3) × (tells_generation r ≡ eqb k 4)
+    × (eqb (kind_field r) 84 ≡ eqb k 5)
 
 pub sort : (r : List ℕ) → Sort r (part r)
-unfolding part tellsEdition tellsRegular tellsComplex tellsLegging tellsGeneration
+unfolding part tells_edition tells_regular tells_complex tells_legging tells_generation
 sort r =
-    let n = kindField r in
+    let n = kind_field r in
     whether n 7 (λ e. rw e (refl, refl, refl, refl, refl)) λ a.
     whether n 8 (λ e. rw e (refl, refl, refl, refl, refl)) λ b.
     whether n 1 (λ e. rw e (refl, refl, refl, refl, refl)) λ c.

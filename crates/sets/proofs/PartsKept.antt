@@ -8,9 +8,9 @@ use lib.Dec.{eqb}
 use lib.ListN.{get_or}
 use borrow.Author.Tests.{ne_eqb}
 use Rattle.rules.specs.Base.{keep}
-use Rattle.rules.specs.Bytes.{kindField}
+use Rattle.rules.specs.Bytes.{kind_field}
 use Rattle.rules.proofs.Tests.{or-false-l, or-false-r}
-use Rattle.sets.specs.Set.{inOrder, ofSeries, part, tellsComplex, tellsEdition, tellsGeneration, tellsLegging, tellsRegular}
+use Rattle.sets.specs.Set.{in_order, of_series, part, tells_complex, tells_edition, tells_generation, tells_legging, tells_regular}
 use Rattle.sets.proofs.Lists.{Each, From, Of, each_append, each_more, keep_append, keep-none, order-join}
 use Rattle.sets.proofs.Parts.{sort-of}
 
@@ -18,26 +18,26 @@ use Rattle.sets.proofs.Parts.{sort-of}
 abbrev pub Only : (k : ℕ) (f : List ℕ → Bool) → Type 0
 Only k f = (r : List ℕ) (j : ℕ) → part r ≡ j → eqb j k ≡ false → f r ≡ false
 
-pub editions-only : Only 1 tellsEdition
+pub editions-only : Only 1 tells_edition
 editions-only r j e n = (sort-of r j e).0 ∙ n
 
-pub regulars-only : Only 2 tellsRegular
-regulars-only r j e n = or-false-l (tellsRegular r) (tellsComplex r) ((sort-of r j e).1 ∙ n)
+pub regulars-only : Only 2 tells_regular
+regulars-only r j e n = or-false-l (tells_regular r) (tells_complex r) ((sort-of r j e).1 ∙ n)
 
-pub complexes-only : Only 2 tellsComplex
-complexes-only r j e n = or-false-r (tellsRegular r) (tellsComplex r) ((sort-of r j e).1 ∙ n)
+pub complexes-only : Only 2 tells_complex
+complexes-only r j e n = or-false-r (tells_regular r) (tells_complex r) ((sort-of r j e).1 ∙ n)
 
-pub leggings-only : Only 3 tellsLegging
+pub leggings-only : Only 3 tells_legging
 leggings-only r j e n = (sort-of r j e).2 ∙ n
 
-pub generations-only : Only 4 tellsGeneration
+pub generations-only : Only 4 tells_generation
 generations-only r j e n = (sort-of r j e).3 ∙ n
 
-pub series-only : (s : ℕ) → Only 4 (ofSeries s)
-unfolding ofSeries
+pub series-only : (s : ℕ) → Only 4 (of_series s)
+unfolding of_series
 series-only s r j e n = rw ((sort-of r j e).3 ∙ n)
 
-pub reached-only : Only 5 (λ r. eqb (kindField r) 84)
+pub reached-only : Only 5 (λ r. eqb (kind_field r) 84)
 reached-only r j e n = (sort-of r j e).4 ∙ n
 
 -- A row of parts ------------------------------------------------------------------------------
@@ -59,8 +59,8 @@ parts_from j k (p ∷ ps) le h =
     (parts_from (suc j) k ps (omega arith) h.1)
 
 -- parts that are each in order
-pub parts-order : (j : ℕ) (ps : List (List (List ℕ))) → Parts j ps → Each (λ p. inOrder p ≡ true) ps → inOrder (flat ps) ≡ true
-unfolding inOrder
+pub parts-order : (j : ℕ) (ps : List (List (List ℕ))) → Parts j ps → Each (λ p. in_order p ≡ true) ps → in_order (flat ps) ≡ true
+unfolding in_order
 parts-order j [] h o = refl
 parts-order j (p ∷ ps) h o = order-join j p (flat ps) h.0 (parts_from (suc j) (suc j) ps (omega arith) h.1) o.0 (parts-order (suc j) ps h.1 o.1)
 

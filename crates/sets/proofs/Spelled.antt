@@ -11,13 +11,13 @@ use lib.Seq.{drop-drop, drop-length, get_or-drop}
 use borrow.Author.Tests.{leb-true, ne_eqb}
 use Rattle.rules.specs.declared.Message.TheVariants.{Away, Status}
 use Rattle.rules.specs.Base.{if◌then◌else◌}
-use Rattle.rules.specs.Words.{isSeries, oneToOne, within}
-use Rattle.rules.specs.Bytes.{as_signed, asUnsigned, bytes, framed, kindField, lengthField, u16, u16At, u32, u32_at, u8, u8_at}
-use Rattle.rules.specs.Messages.{encodeMessage, order_at, orderFields, twoLegAt, twoLegFields}
+use Rattle.rules.specs.Words.{is_series, one_to_one, within}
+use Rattle.rules.specs.Bytes.{as_signed, as_unsigned, bytes, framed, kind_field, length_field, u16, u16_at, u32, u32_at, u8, u8_at}
+use Rattle.rules.specs.Messages.{encode_message, order_at, order_fields, two_leg_at, two_leg_fields}
 use Rattle.rules.specs.Records.{FourBytes}
 use Rattle.rules.proofs.Tests.{and_r}
 use Rattle.sets.specs.Promises.{AllBytes}
-use Rattle.sets.specs.Set.{complexRecord, complexTold, editionRecord, editionTold, firstRecord, generationRecord, leggingRecord, regularRecord, regularTold, setLength}
+use Rattle.sets.specs.Set.{complex_record, complex_told, edition_record, edition_told, first_record, generation_record, legging_record, regular_record, regular_told, set_length}
 use Rattle.sets.proofs.Rows.{Well}
 
 -- Numbers -------------------------------------------------------------------------------------
@@ -58,11 +58,11 @@ front-word (a ∷ b ∷ c ∷ []) h le = absurd (omega arith)
 front-word (a ∷ b ∷ c ∷ d ∷ s) h le = rw (word-spelled a b c d h.0 h.1.0 h.1.1.0 h.1.1.1.0)
 
 -- a number of four bytes, and its sign
-pub unsigned_back : (x : ℕ) → FourBytes x → asUnsigned (as_signed x) ≡ x
-unfolding as_signed asUnsigned
+pub unsigned_back : (x : ℕ) → FourBytes x → as_unsigned (as_signed x) ≡ x
+unfolding as_signed as_unsigned
 unsigned_back x h = go (ltb x 2147483648)
   where
-    go : (b : Bool) → asUnsigned (if b then pos x else negsuc (4294967295 - x)) ≡ x
+    go : (b : Bool) → as_unsigned (if b then pos x else negsuc (4294967295 - x)) ≡ x
     go true = refl
     go false = omega arith
 
@@ -77,12 +77,12 @@ at_byte : (r : List ℕ) (i : ℕ) → u8_at r i ≡ get_or (drop i r) 0 0
 unfolding u8_at
 at_byte r i = let e : i + 0 ≡ i = omega arith in sym (get_or-drop i r 0 0 ∙ ap (λ (n : ℕ). get_or r n 0) e)
 
-at-half : (r : List ℕ) (i : ℕ) → u16At r i ≡ get_or (drop i r) 0 0 + 256 * get_or (drop i r) 1 0
-unfolding u16At
+at-half : (r : List ℕ) (i : ℕ) → u16_at r i ≡ get_or (drop i r) 0 0 + 256 * get_or (drop i r) 1 0
+unfolding u16_at
 at-half r i = rw (at_byte r i, get_or-drop i r 1 0) (unfold u8_at in refl)
 
 at-word : (r : List ℕ) (i : ℕ) → u32_at r i ≡ get_or (drop i r) 0 0 + 256 * get_or (drop i r) 1 0 + 65536 * (get_or (drop i r) 2 0 + 256 * get_or (drop i r) 3 0)
-unfolding u32_at u16At
+unfolding u32_at u16_at
 at-word r i = let e : i + 2 + 1 ≡ i + 3 = omega arith in rw (at_byte r i, get_or-drop i r 1 0, get_or-drop i r 2 0, get_or-drop i r 3 0, e) (unfold u8_at in refl)
 
 byte_small : (r : List ℕ) → AllBytes r → (i : ℕ) → get_or r i 0 < 256
@@ -91,7 +91,7 @@ byte_small (x ∷ r) h zero = h.0
 byte_small (x ∷ r) h (suc i) = byte_small r h.1 i
 
 pub word_small : (r : List ℕ) → AllBytes r → (i : ℕ) → FourBytes (u32_at r i)
-unfolding u32_at u16At u8_at
+unfolding u32_at u16_at u8_at
 word_small r h i =
     let a = byte_small r h i in
     let b = byte_small r h (i + 1) in
@@ -114,7 +114,7 @@ module _ (r : List ℕ) (all : AllBytes r) (i : ℕ) where
   unfolding bytes
   u8-at le = front-byte (drop i r) (bytes_drop i r all) (some_left 1 le) ∙ rw (← at_byte r i, drop-on 1)
 
-  pub u16-at : i + 2 ≤ length r → At r i (u16 (u16At r i))
+  pub u16-at : i + 2 ≤ length r → At r i (u16 (u16_at r i))
   unfolding bytes
   u16-at le = front-half (drop i r) (bytes_drop i r all) (some_left 2 le) ∙ rw (← at-half r i, drop-on 2)
 
@@ -142,17 +142,17 @@ pub record Clean (r : List ℕ) : Type 0 where
 
 module _ (r : List ℕ) (c : Clean r) where
   -- of a kind, it has that kind's length
-  sized : (k : ℕ) → kindField r ≡ k → length r ≡ setLength k
-  sized k e = sym c.well.known ∙ ap setLength e
+  sized : (k : ℕ) → kind_field r ≡ k → length r ≡ set_length k
+  sized k e = sym c.well.known ∙ ap set_length e
 
   -- its front, and its fields after it
-  framed-back : (k : ℕ) (fields : List ℕ) → kindField r ≡ k → At r 4 fields → 4 + length fields ≡ length r → framed k fields ≡ r
-  unfolding framed lengthField kindField bytes
+  framed-back : (k : ℕ) (fields : List ℕ) → kind_field r ≡ k → At r 4 fields → 4 + length fields ≡ length r → framed k fields ≡ r
+  unfolding framed length_field kind_field bytes
   framed-back k fields e f n =
       let four = c.well.four in
-      let front = join r 0 2 (u16 (u16At r 0)) (u16 (u16At r 2)) refl (u16-at r c.bytes 0 (omega arith)) (u16-at r c.bytes 2 (omega arith)) in
-      let all : At r 0 (u16 (u16At r 0) ++ u16 (u16At r 2) ++ fields) = join r 0 4 (u16 (u16At r 0) ++ u16 (u16At r 2)) fields refl front f in
-      ap₂ (λ (x y : ℕ). u16 x ++ u16 y ++ fields) (n ∙ sym c.well.told) (sym e) ∙ all-at r (u16 (u16At r 0) ++ u16 (u16At r 2) ++ fields) all (omega arith)
+      let front = join r 0 2 (u16 (u16_at r 0)) (u16 (u16_at r 2)) refl (u16-at r c.bytes 0 (omega arith)) (u16-at r c.bytes 2 (omega arith)) in
+      let all : At r 0 (u16 (u16_at r 0) ++ u16 (u16_at r 2) ++ fields) = join r 0 4 (u16 (u16_at r 0) ++ u16 (u16_at r 2)) fields refl front f in
+      ap₂ (λ (x y : ℕ). u16 x ++ u16 y ++ fields) (n ∙ sym c.well.told) (sym e) ∙ all-at r (u16 (u16_at r 0) ++ u16 (u16_at r 2) ++ fields) all (omega arith)
 
   -- a field at a place of a record that is long enough
   u8-in : (i : ℕ) → i + 1 ≤ length r → At r i (u8 (u8_at r i))
@@ -161,28 +161,28 @@ module _ (r : List ℕ) (c : Clean r) where
   u32-in : (i : ℕ) → i + 4 ≤ length r → At r i (u32 (u32_at r i))
   u32-in i le = u32-at r c.bytes i le
 
-  pub first-spelled : kindField r ≡ 80 → firstRecord (u32_at r 4) (u32_at r 8) ≡ r
-  unfolding firstRecord bytes setLength
+  pub first-spelled : kind_field r ≡ 80 → first_record (u32_at r 4) (u32_at r 8) ≡ r
+  unfolding first_record bytes set_length
   first-spelled k =
       let n = sized 80 k in
       framed-back 80 _ k (join r 4 8 (u32 (u32_at r 4)) (u32 (u32_at r 8)) refl (u32-in 4 (omega arith)) (u32-in 8 (omega arith))) (sym n)
 
-  pub status-spelled : kindField r ≡ 5 → encodeMessage (Status (u8_at r 4) (u8_at r 5)) ≡ r
-  unfolding encodeMessage bytes setLength
+  pub status-spelled : kind_field r ≡ 5 → encode_message (Status (u8_at r 4) (u8_at r 5)) ≡ r
+  unfolding encode_message bytes set_length
   status-spelled k =
       let n = sized 5 k in
       framed-back 5 _ k (join r 4 5 (u8 (u8_at r 4)) (u8 (u8_at r 5)) refl (u8-in 4 (omega arith)) (u8-in 5 (omega arith))) (sym n)
 
-  pub away-spelled : kindField r ≡ 4 → encodeMessage (Away (u8_at r 4) (u32_at r 5) (u32_at r 9)) ≡ r
-  unfolding encodeMessage bytes setLength
+  pub away-spelled : kind_field r ≡ 4 → encode_message (Away (u8_at r 4) (u32_at r 5) (u32_at r 9)) ≡ r
+  unfolding encode_message bytes set_length
   away-spelled k =
       let n = sized 4 k in
       let a = join r 4 5 (u8 (u8_at r 4)) (u32 (u32_at r 5)) refl (u8-in 4 (omega arith)) (u32-in 5 (omega arith)) in
       framed-back 4 _ k (join r 4 9 (u8 (u8_at r 4) ++ u32 (u32_at r 5)) (u32 (u32_at r 9)) refl a (u32-in 9 (omega arith))) (sym n)
 
   -- editions: of a figure that is a series, and of the percentage
-  pub edition-spelled : kindField r ≡ 7 → isSeries (u8_at r 4) ≡ true → editionRecord (editionTold r) ≡ r
-  unfolding editionRecord editionTold isSeries within bytes setLength
+  pub edition-spelled : kind_field r ≡ 7 → is_series (u8_at r 4) ≡ true → edition_record (edition_told r) ≡ r
+  unfolding edition_record edition_told is_series within bytes set_length
   edition-spelled k s =
       let n = sized 7 k in
       let le = leb-true (u8_at r 4) 7 (and_r (leb 0 (u8_at r 4)) (leb (u8_at r 4) 7) s) in
@@ -192,16 +192,16 @@ module _ (r : List ℕ) (c : Clean r) where
       let f = framed-back 7 _ k (join r 4 10 (u8 (u8_at r 4) ++ u8 (u8_at r 5) ++ u32 (u32_at r 6)) (u32 (u32_at r 10)) refl b (u32-in 10 (omega arith))) (sym n) in
       rw (k, no) f
 
-  pub percent-spelled : kindField r ≡ 8 → editionRecord (editionTold r) ≡ r
-  unfolding editionRecord editionTold bytes setLength
+  pub percent-spelled : kind_field r ≡ 8 → edition_record (edition_told r) ≡ r
+  unfolding edition_record edition_told bytes set_length
   percent-spelled k =
       let n = sized 8 k in
       let a = join r 4 5 (u8 (u8_at r 4)) (u32 (u32_at r 5)) refl (u8-in 4 (omega arith)) (u32-in 5 (omega arith)) in
       let f = framed-back 8 _ k (join r 4 9 (u8 (u8_at r 4) ++ u32 (u32_at r 5)) (u32 (u32_at r 9)) refl a (u32-in 9 (omega arith))) (sym n) in
       rw k f
 
-  pub regular-spelled : kindField r ≡ 9 → regularRecord (regularTold r) ≡ r
-  unfolding regularRecord regularTold orderFields order_at bytes setLength
+  pub regular-spelled : kind_field r ≡ 9 → regular_record (regular_told r) ≡ r
+  unfolding regular_record regular_told order_fields order_at bytes set_length
   regular-spelled k =
       let n = sized 9 k in
       let a = join r 4 8 (u32 (u32_at r 4)) (u8 (u8_at r 8)) refl (u32-in 4 (omega arith)) (u8-in 8 (omega arith)) in
@@ -211,8 +211,8 @@ module _ (r : List ℕ) (c : Clean r) where
       let f = framed-back 9 _ k (join r 4 18 (u32 (u32_at r 4) ++ u8 (u8_at r 8) ++ u8 (u8_at r 9) ++ u32 (u32_at r 10) ++ u32 (u32_at r 14)) (u32 (u32_at r 18)) refl e (u32-in 18 (omega arith))) (sym n) in
       rw k f
 
-  pub legging-spelled : kindField r ≡ 82 → leggingRecord (u8_at r 8) (u8_at r 9) (record { parent = u32_at r 4; price = u32_at r 10; quantity = u32_at r 14 }) ≡ r
-  unfolding leggingRecord bytes setLength
+  pub legging-spelled : kind_field r ≡ 82 → legging_record (u8_at r 8) (u8_at r 9) (record { parent = u32_at r 4; price = u32_at r 10; quantity = u32_at r 14 }) ≡ r
+  unfolding legging_record bytes set_length
   legging-spelled k =
       let n = sized 82 k in
       let a = join r 4 8 (u32 (u32_at r 4)) (u8 (u8_at r 8)) refl (u32-in 4 (omega arith)) (u8-in 8 (omega arith)) in
@@ -220,19 +220,19 @@ module _ (r : List ℕ) (c : Clean r) where
       let d = join r 4 10 (u32 (u32_at r 4) ++ u8 (u8_at r 8) ++ u8 (u8_at r 9)) (u32 (u32_at r 10)) refl b (u32-in 10 (omega arith)) in
       framed-back 82 _ k (join r 4 14 (u32 (u32_at r 4) ++ u8 (u8_at r 8) ++ u8 (u8_at r 9) ++ u32 (u32_at r 10)) (u32 (u32_at r 14)) refl d (u32-in 14 (omega arith))) (sym n)
 
-  pub generation-spelled : kindField r ≡ 83 → generationRecord (u8_at r 4) (u32_at r 5) ≡ r
-  unfolding generationRecord bytes setLength
+  pub generation-spelled : kind_field r ≡ 83 → generation_record (u8_at r 4) (u32_at r 5) ≡ r
+  unfolding generation_record bytes set_length
   generation-spelled k =
       let n = sized 83 k in
       framed-back 83 _ k (join r 4 5 (u8 (u8_at r 4)) (u32 (u32_at r 5)) refl (u8-in 4 (omega arith)) (u32-in 5 (omega arith))) (sym n)
 
-  pub reached-spelled : kindField r ≡ 84 → framed 84 (u32 (u32_at r 4)) ≡ r
-  unfolding bytes setLength
+  pub reached-spelled : kind_field r ≡ 84 → framed 84 (u32 (u32_at r 4)) ≡ r
+  unfolding bytes set_length
   reached-spelled k = let n = sized 84 k in framed-back 84 _ k (u32-in 4 (omega arith)) (sym n)
 
   -- a complex order, with its ratios
-  two-leg : (x y : ℕ) → 21 ≤ length r → At r 4 (twoLegFields (twoLegAt r x y))
-  unfolding twoLegFields twoLegAt bytes
+  two-leg : (x y : ℕ) → 21 ≤ length r → At r 4 (two_leg_fields (two_leg_at r x y))
+  unfolding two_leg_fields two_leg_at bytes
   two-leg x y n =
       let a = join r 4 8 (u32 (u32_at r 4)) (u8 (u8_at r 8)) refl (u32-in 4 (omega arith)) (u8-in 8 (omega arith)) in
       let b = join r 4 9 (u32 (u32_at r 4) ++ u8 (u8_at r 8)) (u8 (u8_at r 9)) refl a (u8-in 9 (omega arith)) in
@@ -244,19 +244,19 @@ module _ (r : List ℕ) (c : Clean r) where
       ++ u32 (u32_at r 13)) (u32 (u32_at r 17)) refl g (u32-in 17 (omega arith)) in
       rw (unsigned_back (u32_at r 13) (word_small r c.bytes 13)) h
 
-  pub two-spelled : kindField r ≡ 2 → complexRecord (complexTold r) ≡ r
-  unfolding complexRecord complexTold encodeMessage oneToOne twoLegFields twoLegAt bytes setLength
+  pub two-spelled : kind_field r ≡ 2 → complex_record (complex_told r) ≡ r
+  unfolding complex_record complex_told encode_message one_to_one two_leg_fields two_leg_at bytes set_length
   two-spelled k =
       let n = sized 2 k in
-      let f = framed-back 2 (twoLegFields (twoLegAt r 1 1)) k (two-leg 1 1 (omega arith)) (sym n) in
+      let f = framed-back 2 (two_leg_fields (two_leg_at r 1 1)) k (two-leg 1 1 (omega arith)) (sym n) in
       rw k f
 
-  pub ten-spelled : kindField r ≡ 10 → oneToOne (complexTold r) ≡ false → complexRecord (complexTold r) ≡ r
-  unfolding complexRecord complexTold encodeMessage twoLegFields twoLegAt bytes setLength
+  pub ten-spelled : kind_field r ≡ 10 → one_to_one (complex_told r) ≡ false → complex_record (complex_told r) ≡ r
+  unfolding complex_record complex_told encode_message two_leg_fields two_leg_at bytes set_length
   ten-spelled k o =
       let n = sized 10 k in
       let x = u8_at r 21 in
       let y = u8_at r 22 in
-      let a = join r 4 21 (twoLegFields (twoLegAt r x y)) (u8 x) refl (two-leg x y (omega arith)) (u8-in 21 (omega arith)) in
-      let f = framed-back 10 (twoLegFields (twoLegAt r x y) ++ u8 x ++ u8 y) k (join r 4 22 (twoLegFields (twoLegAt r x y) ++ u8 x) (u8 y) refl a (u8-in 22 (omega arith))) (sym n) in
+      let a = join r 4 21 (two_leg_fields (two_leg_at r x y)) (u8 x) refl (two-leg x y (omega arith)) (u8-in 21 (omega arith)) in
+      let f = framed-back 10 (two_leg_fields (two_leg_at r x y) ++ u8 x ++ u8 y) k (join r 4 22 (two_leg_fields (two_leg_at r x y) ++ u8 x) (u8 y) refl a (u8-in 22 (omega arith))) (sym n) in
       rw (o, k) f

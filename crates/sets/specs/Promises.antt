@@ -1,21 +1,21 @@
 -- What a set promises: it reads back, it is written back, and a day that is cut by sets goes on as if it were not.
 use Rattle.std.specs.Prelude.{◌≡◌, List, [], ◌∷◌, ℕ, suc, ◌+◌, ◌*◌, ◌<◌, ◌≤◌, length, get_or, take}
 use Rattle.rules.specs.declared.Venue.{Venue}
-use Rattle.rules.specs.Bytes.{kindField}
+use Rattle.rules.specs.Bytes.{kind_field}
 use Rattle.rules.specs.Records.{FourBytes}
-use Rattle.rules.specs.Calls.{runUpon}
+use Rattle.rules.specs.Calls.{run_upon}
 use Rattle.demands.specs.Soundness.{Shaped, SoundAt}
-use Rattle.demands.specs.Demand.{Later, callUpon}
-use Rattle.demands.specs.Agree.{OfList, Progress, byCalls, onward}
-use Rattle.sets.specs.Set.{row, heldIn, joined, readSet, setOf, writeSet}
+use Rattle.demands.specs.Demand.{Later, call_upon}
+use Rattle.demands.specs.Agree.{OfList, Progress, by_calls, onward}
+use Rattle.sets.specs.Set.{row, held_in, joined, read_set, set_of, write_set}
 
 -- Both ways -----------------------------------------------------------------------------------
 
 -- reading what was written gives the venue and the number back, for every venue that writing takes
 -- rule: (h)2
 abbrev pub ReadsBack : Type 0
-ReadsBack = (number room : ℕ) (v : Venue) → FourBytes number → Shaped v → (writeSet number v room).number ≡ 0 →
-    readSet (writeSet number v room).memory ≡ record { number = 0; venue = v; message = number }
+ReadsBack = (number room : ℕ) (v : Venue) → FourBytes number → Shaped v → (write_set number v room).number ≡ 0 →
+    read_set (write_set number v room).memory ≡ record { number = 0; venue = v; message = number }
 
 -- each number of a list is a byte
 abbrev pub AllBytes : List ℕ → Type 0
@@ -25,18 +25,18 @@ AllBytes (b ∷ bs) = (b < 256) × AllBytes bs
 -- writing what was read from a whole set gives its records back
 -- rule: (h)2
 abbrev pub WritesBack : Type 0
-WritesBack = (memory : List ℕ) (rs : List (List ℕ)) → AllBytes memory → heldIn memory ≡ row rs → kindField (get_or rs 0 []) ≡ 80 → (readSet memory).number ≡ 0 →
-    setOf (readSet memory).message (readSet memory).venue ≡ rs
+WritesBack = (memory : List ℕ) (rs : List (List ℕ)) → AllBytes memory → held_in memory ≡ row rs → kind_field (get_or rs 0 []) ≡ 80 → (read_set memory).number ≡ 0 →
+    set_of (read_set memory).message (read_set memory).venue ≡ rs
 
 -- so what was read from a whole set, written into as many bytes, is those bytes
 abbrev pub BytesBack : Type 0
-BytesBack = (memory : List ℕ) (rs : List (List ℕ)) → AllBytes memory → heldIn memory ≡ row rs → kindField (get_or rs 0 []) ≡ 80 → (readSet memory).number ≡ 0 →
+BytesBack = (memory : List ℕ) (rs : List (List ℕ)) → AllBytes memory → held_in memory ≡ row rs → kind_field (get_or rs 0 []) ≡ 80 → (read_set memory).number ≡ 0 →
     let n = length (joined rs) in
-    writeSet (readSet memory).message (readSet memory).venue n ≡ record { number = 0; written = n; memory = take n memory }
+    write_set (read_set memory).message (read_set memory).venue n ≡ record { number = 0; written = n; memory = take n memory }
 
 -- for a row that is held in a memory is its first bytes
 abbrev pub RowsAre : Type 0
-RowsAre = (memory : List ℕ) (rs : List (List ℕ)) → heldIn memory ≡ row rs → take (length (joined rs)) memory ≡ joined rs
+RowsAre = (memory : List ℕ) (rs : List (List ℕ)) → held_in memory ≡ row rs → take (length (joined rs)) memory ≡ joined rs
 
 -- What is read ----------------------------------------------------------------------------------
 
@@ -44,18 +44,18 @@ RowsAre = (memory : List ℕ) (rs : List (List ℕ)) → heldIn memory ≡ row r
 -- whatever the memory, the venue that is read has the declared lengths, is sound and goes with its number, which is a u32 where the memory is of bytes
 -- rule: (h)7
 pub record ReadsSound : Type 0 where
-  pub sound : (memory : List ℕ) → SoundAt (suc (readSet memory).message) (readSet memory).venue
-  pub number : (memory : List ℕ) → AllBytes memory → FourBytes (readSet memory).message
+  pub sound : (memory : List ℕ) → SoundAt (suc (read_set memory).message) (read_set memory).venue
+  pub number : (memory : List ℕ) → AllBytes memory → FourBytes (read_set memory).message
 
 -- The most bytes of a set ---------------------------------------------------------------------
 
 -- the first record, eight series, 32 editions, 128 regular and 32 complex orders, 16 legging orders, 20 generations of each series, the id reached
-abbrev pub mostSetBytes : ℕ
-mostSetBytes = 12 + (6 + 13) * 8 + 14 * 32 + 22 * 128 + 23 * 32 + 18 * 16 + 9 * 160 + 8
+abbrev pub most_set_bytes : ℕ
+most_set_bytes = 12 + (6 + 13) * 8 + 14 * 32 + 22 * 128 + 23 * 32 + 18 * 16 + 9 * 160 + 8
 
 -- for a host: memory of so many bytes holds the set of every venue of the declared type
 abbrev pub AtMost : Type 0
-AtMost = (number : ℕ) (v : Venue) → Shaped v → length (joined (setOf number v)) ≤ mostSetBytes
+AtMost = (number : ℕ) (v : Venue) → Shaped v → length (joined (set_of number v)) ≤ most_set_bytes
 
 -- The cut -------------------------------------------------------------------------------------
 
@@ -67,13 +67,13 @@ pub data Going : Type 0 where
 -- "writing, reading and going on"
 unfoldable pub carried : (room : ℕ) → Progress → Progress
 carried room p =
-    let r = readSet (writeSet p.done p.venue room).memory in
+    let r = read_set (write_set p.done p.venue room).memory in
     record { torn = p.torn; done = r.message; venue = r.venue; bytes = p.bytes; left = p.left }
 
-unfoldable pub goingOn : List Going → Progress → Progress
-goingOn [] p = p
-goingOn (call c ∷ gs) p = goingOn gs (onward p (callUpon c p.venue p.done))
-goingOn (cut room ∷ gs) p = goingOn gs (carried room p)
+unfoldable pub going_on : List Going → Progress → Progress
+going_on [] p = p
+going_on (call c ∷ gs) p = going_on gs (onward p (call_upon c p.venue p.done))
+going_on (cut room ∷ gs) p = going_on gs (carried room p)
 
 -- "without the cut": the calls, in order
 unfoldable pub uncut : List Going → List Later
@@ -85,20 +85,20 @@ uncut (cut room ∷ gs) = uncut gs
 -- rule: (h)4
 abbrev pub SetsFit : List Going → Progress → Type 0
 SetsFit [] p = Unit {0}
-SetsFit (call c ∷ gs) p = SetsFit gs (onward p (callUpon c p.venue p.done))
-SetsFit (cut room ∷ gs) p = (length (joined (setOf p.done p.venue)) ≤ room) × SetsFit gs (carried room p)
+SetsFit (call c ∷ gs) p = SetsFit gs (onward p (call_upon c p.venue p.done))
+SetsFit (cut room ∷ gs) p = (length (joined (set_of p.done p.venue)) ≤ room) × SetsFit gs (carried room p)
 
 -- "Cutting a message list between any two messages that a run does, writing, reading and going on gives the same records as going on without the cut, given
 -- memory that holds them". Of every list of calls, each given a message or a list, from a sound venue with its number on, and with any number of cuts, wherever
 -- they are: cut or not, the calls come to the same, a call ended by 10 too
 -- rule: (h)4
 abbrev pub CutCalls : Type 0
-CutCalls = (gs : List Going) (p : Progress) → SoundAt (suc p.done) p.venue → FourBytes p.done → SetsFit gs p → goingOn gs p ≡ byCalls (uncut gs) p
+CutCalls = (gs : List Going) (p : Progress) → SoundAt (suc p.done) p.venue → FourBytes p.done → SetsFit gs p → going_on gs p ≡ by_calls (uncut gs) p
 
 -- and of one list of messages: calls with cuts between any of them that together do as many messages as a run of the list on the same venue write its bytes
 -- and leave its venue. A day that begins by a run from fresh, is cut at noon and goes on by a run of the rest is the case of the fresh venue and two calls
 -- rule: (h)4
 abbrev pub Cut : Type 0
 Cut = (p : Progress) (room : ℕ) (gs : List Going) → SoundAt (suc p.done) p.venue → FourBytes p.done → SetsFit gs p → OfList (uncut gs) p →
-    let r = onward p (runUpon p.venue p.done room p.left) in
-    (goingOn gs p).done ≡ r.done → goingOn gs p ≡ r
+    let r = onward p (run_upon p.venue p.done room p.left) in
+    (going_on gs p).done ≡ r.done → going_on gs p ≡ r

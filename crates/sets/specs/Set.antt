@@ -10,85 +10,85 @@ use Rattle.rules.specs.declared.Generations.{Generations}
 use Rattle.rules.specs.declared.Venue.{Venue}
 use Rattle.rules.specs.declared.Message.TheVariants.{TwoLeg, Away, Status}
 use Rattle.rules.specs.Base.{if◌then◌else◌, held, all, keep}
-use Rattle.rules.specs.Words.{isSeries, isSide, oneToOne, noRegular, noComplex, noLegging, noEdition, placeOf, freshVenue}
+use Rattle.rules.specs.Words.{is_series, is_side, one_to_one, no_regular, no_complex, no_legging, no_edition, place_of, fresh_venue}
 use Rattle.rules.specs.Settings.{percentage}
-use Rattle.rules.specs.Bytes.{u8_at, u32_at, lengthField, kindField, u8, u32, framed}
-use Rattle.rules.specs.Messages.{order_at, twoLegAt, orderFields, encodeMessage}
+use Rattle.rules.specs.Bytes.{u8_at, u32_at, length_field, kind_field, u8, u32, framed}
+use Rattle.rules.specs.Messages.{order_at, two_leg_at, order_fields, encode_message}
 use Rattle.rules.specs.Refusals.{torn}
-use Rattle.rules.specs.Places.{holdsRegular, holdsComplex, holdsEdition}
+use Rattle.rules.specs.Places.{holds_regular, holds_complex, holds_edition}
 use Rattle.rules.specs.Sound.{sound, follows}
 
 -- The set of a venue --------------------------------------------------------------------------
 
 -- "kind 80 with message number u32 and last id u32"
-unfoldable pub firstRecord : (number last : ℕ) → List ℕ
-firstRecord n last = framed 80 (u32 n ++ u32 last)
+unfoldable pub first_record : (number last : ℕ) → List ℕ
+first_record n last = framed 80 (u32 n ++ u32 last)
 
 -- "kinds 5 and 4 for each series in turn", from series s on
-unfoldable pub seriesRecords : (s : ℕ) → List Listed → List (List ℕ)
-seriesRecords s [] = []
-seriesRecords s (x ∷ xs) = encodeMessage (Status s x.status) ∷ encodeMessage (Away s x.bid x.offer) ∷ seriesRecords (suc s) xs
+unfoldable pub series_records : (s : ℕ) → List Listed → List (List ℕ)
+series_records s [] = []
+series_records s (x ∷ xs) = encode_message (Status s x.status) ∷ encode_message (Away s x.bid x.offer) ∷ series_records (suc s) xs
 
 -- "editions by rising edition, as kind 7 or 8 with the message number u32 after"; a figure that is not the percentage is the increment of that series
-unfoldable pub editionRecord : Edition → List ℕ
-editionRecord e =
+unfoldable pub edition_record : Edition → List ℕ
+edition_record e =
     if eqb e.figure percentage
     then framed 8 (u8 e.value ++ u32 e.edition ++ u32 e.message)
     else framed 7 (u8 e.figure ++ u8 e.value ++ u32 e.edition ++ u32 e.message)
 
 -- "resting orders by rising id, as kind 9, 2 or 10 with what is left and, in 9, what shows"
-unfoldable pub regularRecord : Regular → List ℕ
-regularRecord o = framed 9 (orderFields o ++ u32 o.display)
+unfoldable pub regular_record : Regular → List ℕ
+regular_record o = framed 9 (order_fields o ++ u32 o.display)
 
-unfoldable pub complexRecord : Complex → List ℕ
-complexRecord c = encodeMessage (TwoLeg c)
+unfoldable pub complex_record : Complex → List ℕ
+complex_record c = encode_message (TwoLeg c)
 
 -- the orders of both books in one row; each book is in rising id. The fuel is the number of both
 unfoldable pub by_id : (fuel : ℕ) → List Regular → List Complex → List (List ℕ)
 by_id zero os cs = []
-by_id (suc fuel) [] cs = map complexRecord cs
-by_id (suc fuel) (o ∷ os) [] = map regularRecord (o ∷ os)
+by_id (suc fuel) [] cs = map complex_record cs
+by_id (suc fuel) (o ∷ os) [] = map regular_record (o ∷ os)
 by_id (suc fuel) (o ∷ os) (c ∷ cs) =
-    if ltb o.id c.id then regularRecord o ∷ by_id fuel os (c ∷ cs) else complexRecord c ∷ by_id fuel (o ∷ os) cs
+    if ltb o.id c.id then regular_record o ∷ by_id fuel os (c ∷ cs) else complex_record c ∷ by_id fuel (o ∷ os) cs
 
 -- "kind 82 with id u32, series u8, side u8, price u32, quantity u32"
-unfoldable pub leggingRecord : (series side : ℕ) → Legging → List ℕ
-leggingRecord s d l = framed 82 (u32 l.parent ++ u8 s ++ u8 d ++ u32 l.price ++ u32 l.quantity)
+unfoldable pub legging_record : (series side : ℕ) → Legging → List ℕ
+legging_record s d l = framed 82 (u32 l.parent ++ u8 s ++ u8 d ++ u32 l.price ++ u32 l.quantity)
 
 -- "legging orders by rising place", from series s on, whose two places are its sides'
-unfoldable pub leggingRecords : (s : ℕ) → List Legging → List (List ℕ)
-leggingRecords s [] = []
-leggingRecords s (l ∷ []) = []
-leggingRecords s (l ∷ k ∷ ls) =
-    (if held l.quantity then leggingRecord s 0 l ∷ [] else []) ++ (if held k.quantity then leggingRecord s 1 k ∷ [] else []) ++ leggingRecords (suc s) ls
+unfoldable pub legging_records : (s : ℕ) → List Legging → List (List ℕ)
+legging_records s [] = []
+legging_records s (l ∷ []) = []
+legging_records s (l ∷ k ∷ ls) =
+    (if held l.quantity then legging_record s 0 l ∷ [] else []) ++ (if held k.quantity then legging_record s 1 k ∷ [] else []) ++ legging_records (suc s) ls
 
 -- (m): "kind 83 with series u8 and message number u32"
-unfoldable pub generationRecord : (series number : ℕ) → List ℕ
-generationRecord s n = framed 83 (u8 s ++ u32 n)
+unfoldable pub generation_record : (series number : ℕ) → List ℕ
+generation_record s n = framed 83 (u8 s ++ u32 n)
 
 -- "each series' last 20 generations, by series, oldest first", from series s on
 -- rule: (m)4
-unfoldable pub generationRecords : (s : ℕ) → List Generations → List (List ℕ)
-generationRecords s [] = []
-generationRecords s (g ∷ gs) = map (generationRecord s) (keep held g.messages) ++ generationRecords (suc s) gs
+unfoldable pub generation_records : (s : ℕ) → List Generations → List (List ℕ)
+generation_records s [] = []
+generation_records s (g ∷ gs) = map (generation_record s) (keep held g.messages) ++ generation_records (suc s) gs
 
 -- "then the id reached, if any, as kind 84 with u32"
 -- rule: (m)4
-unfoldable pub reachedRecords : (id : ℕ) → List (List ℕ)
-reachedRecords id = if held id then framed 84 (u32 id) ∷ [] else []
+unfoldable pub reached_records : (id : ℕ) → List (List ℕ)
+reached_records id = if held id then framed 84 (u32 id) ∷ [] else []
 
 -- rule: (h)1
-unfoldable pub setOf : (number : ℕ) → Venue → List (List ℕ)
-setOf number v =
-    let os = keep holdsRegular v.regular in
-    let cs = keep holdsComplex v.complex in
-    firstRecord number v.last
-    ∷ seriesRecords 0 v.series
-    ++ map editionRecord (keep holdsEdition v.editions)
+unfoldable pub set_of : (number : ℕ) → Venue → List (List ℕ)
+set_of number v =
+    let os = keep holds_regular v.regular in
+    let cs = keep holds_complex v.complex in
+    first_record number v.last
+    ∷ series_records 0 v.series
+    ++ map edition_record (keep holds_edition v.editions)
     ++ by_id (length os + length cs) os cs
-    ++ leggingRecords 0 v.legging
-    ++ generationRecords 0 v.generations
-    ++ reachedRecords v.reached
+    ++ legging_records 0 v.legging
+    ++ generation_records 0 v.generations
+    ++ reached_records v.reached
 
 -- the bytes of a row of records
 unfoldable pub joined : List (List ℕ) → List ℕ
@@ -98,8 +98,8 @@ joined (r ∷ rs) = r ++ joined rs
 -- 16: "a record torn … or of a kind or length not the set's" ------------------------------------------
 
 -- the length of each kind of record; 0 for what is none
-unfoldable pub setLength : (kind : ℕ) → ℕ
-setLength k =
+unfoldable pub set_length : (kind : ℕ) → ℕ
+set_length k =
     if eqb k 1 then 18
     else if eqb k 2 then 21
     else if eqb k 4 then 13
@@ -126,115 +126,115 @@ behind r (row rs) = row (r ∷ rs)
 
 -- "a zero length or one last zero byte ends it for the reader", as the memory's end does: a byte past it reads as 0. The fuel is the memory's length
 -- rule: (h)5
-unfoldable pub heldFrom : (fuel : ℕ) → List ℕ → Held
-heldFrom zero bs = row []
-heldFrom (suc fuel) bs = elim (eqb (lengthField bs) 0) [
+unfoldable pub held_from : (fuel : ℕ) → List ℕ → Held
+held_from zero bs = row []
+held_from (suc fuel) bs = elim (eqb (length_field bs) 0) [
   | true ↦ row []
-  | false ↦ elim (torn bs || not (eqb (lengthField bs) (setLength (kindField bs)))) [
+  | false ↦ elim (torn bs || not (eqb (length_field bs) (set_length (kind_field bs)))) [
     | true ↦ broken
-    | false ↦ behind (take (lengthField bs) bs) (heldFrom fuel (drop (lengthField bs) bs))
+    | false ↦ behind (take (length_field bs) bs) (held_from fuel (drop (length_field bs) bs))
   ]
 ]
 
 -- rule: (h)2
-unfoldable pub heldIn : (memory : List ℕ) → Held
-heldIn memory = heldFrom (length memory) memory
+unfoldable pub held_in : (memory : List ℕ) → Held
+held_in memory = held_from (length memory) memory
 
 -- 16: "missing, out of order, one too many or of a kind … not the set's" ------------------------------
 
 -- kinds 1 and 9, and kinds 2 and 10
-unfoldable pub tellsRegular : List ℕ → Bool
-tellsRegular r = eqb (kindField r) 1 || eqb (kindField r) 9
+unfoldable pub tells_regular : List ℕ → Bool
+tells_regular r = eqb (kind_field r) 1 || eqb (kind_field r) 9
 
-unfoldable pub tellsComplex : List ℕ → Bool
-tellsComplex r = eqb (kindField r) 2 || eqb (kindField r) 10
+unfoldable pub tells_complex : List ℕ → Bool
+tells_complex r = eqb (kind_field r) 2 || eqb (kind_field r) 10
 
-unfoldable pub tellsEdition : List ℕ → Bool
-tellsEdition r = eqb (kindField r) 7 || eqb (kindField r) 8
+unfoldable pub tells_edition : List ℕ → Bool
+tells_edition r = eqb (kind_field r) 7 || eqb (kind_field r) 8
 
-unfoldable pub tellsLegging : List ℕ → Bool
-tellsLegging r = eqb (kindField r) 82
+unfoldable pub tells_legging : List ℕ → Bool
+tells_legging r = eqb (kind_field r) 82
 
-unfoldable pub tellsGeneration : List ℕ → Bool
-tellsGeneration r = eqb (kindField r) 83
+unfoldable pub tells_generation : List ℕ → Bool
+tells_generation r = eqb (kind_field r) 83
 
 -- the part of a set that a record is of, after its first one and the series': editions, resting orders, legging orders, generations, the id reached
 unfoldable pub part : List ℕ → ℕ
 part r =
-    if tellsEdition r then 1
-    else if tellsRegular r || tellsComplex r then 2
-    else if tellsLegging r then 3
-    else if tellsGeneration r then 4
-    else if eqb (kindField r) 84 then 5
+    if tells_edition r then 1
+    else if tells_regular r || tells_complex r then 2
+    else if tells_legging r then 3
+    else if tells_generation r then 4
+    else if eqb (kind_field r) 84 then 5
     else 0
 
 -- by what the records of a part rise: edition, id, place; of generations the series
-unfoldable pub sortKey : List ℕ → ℕ
-sortKey r =
-    if eqb (kindField r) 7 then u32_at r 6
-    else if eqb (kindField r) 8 then u32_at r 5
+unfoldable pub sort_key : List ℕ → ℕ
+sort_key r =
+    if eqb (kind_field r) 7 then u32_at r 6
+    else if eqb (kind_field r) 8 then u32_at r 5
     else if eqb (part r) 2 then u32_at r 4
-    else if eqb (part r) 3 then placeOf (u8_at r 8) (u8_at r 9)
+    else if eqb (part r) 3 then place_of (u8_at r 8) (u8_at r 9)
     else if eqb (part r) 4 then u8_at r 4
     else 0
 
 -- the message number in a generation's record
-unfoldable pub generationTold : List ℕ → ℕ
-generationTold r = u32_at r 5
+unfoldable pub generation_told : List ℕ → ℕ
+generation_told r = u32_at r 5
 
 -- one record may stand after another: of a later part, or risen within its part; generations of one series do not fall
-unfoldable pub mayFollow : (before after : List ℕ) → Bool
-mayFollow q r =
+unfoldable pub may_follow : (before after : List ℕ) → Bool
+may_follow q r =
     ltb (part q) (part r)
-    || (eqb (part q) (part r) && (ltb (sortKey q) (sortKey r) || (eqb (part q) 4 && eqb (sortKey q) (sortKey r) && leb (generationTold q) (generationTold r))))
+    || (eqb (part q) (part r) && (ltb (sort_key q) (sort_key r) || (eqb (part q) 4 && eqb (sort_key q) (sort_key r) && leb (generation_told q) (generation_told r))))
 
 -- rule: (h)7
-unfoldable pub inOrder : List (List ℕ) → Bool
-inOrder [] = true
-inOrder (q ∷ []) = true
-inOrder (q ∷ r ∷ rs) = mayFollow q r && inOrder (r ∷ rs)
+unfoldable pub in_order : List (List ℕ) → Bool
+in_order [] = true
+in_order (q ∷ []) = true
+in_order (q ∷ r ∷ rs) = may_follow q r && in_order (r ∷ rs)
 
 unfoldable pub count_of : (List ℕ → Bool) → List (List ℕ) → ℕ
 count_of f rs = length (keep f rs)
 
 -- a record is a generation of a series
-unfoldable pub ofSeries : (series : ℕ) → List ℕ → Bool
-ofSeries s r = tellsGeneration r && eqb (u8_at r 4) s
+unfoldable pub of_series : (series : ℕ) → List ℕ → Bool
+of_series s r = tells_generation r && eqb (u8_at r 4) s
 
 -- "one too many": a 33rd edition, 129th regular order, 33rd complex order, 17th legging order, 21st generation of a series
 -- rule: (h)7
-unfoldable pub fewEnough : List (List ℕ) → Bool
-fewEnough rs =
-    leb (count_of tellsEdition rs) 32
-    && leb (count_of tellsRegular rs) 128
-    && leb (count_of tellsComplex rs) 32
-    && leb (count_of tellsLegging rs) 16
-    && all (λ r. not (tellsGeneration r) || leb (count_of (ofSeries (u8_at r 4)) rs) 20) rs
+unfoldable pub few_enough : List (List ℕ) → Bool
+few_enough rs =
+    leb (count_of tells_edition rs) 32
+    && leb (count_of tells_regular rs) 128
+    && leb (count_of tells_complex rs) 32
+    && leb (count_of tells_legging rs) 16
+    && all (λ r. not (tells_generation r) || leb (count_of (of_series (u8_at r 4)) rs) 20) rs
 
 -- "The reader also takes a short set, …, with 1 for 9 and no editions"; (m): "To its set, but no short one, (h) adds" kinds 83 and 84
 -- rule: (m)4
-unfoldable pub ofWhole : List ℕ → Bool
-ofWhole r = not (eqb (part r) 0) && not (eqb (kindField r) 1)
+unfoldable pub of_whole : List ℕ → Bool
+of_whole r = not (eqb (part r) 0) && not (eqb (kind_field r) 1)
 
 -- rule: (h)3, (m)4
-unfoldable pub ofShort : List ℕ → Bool
-ofShort r = (eqb (part r) 2 && not (eqb (kindField r) 9)) || eqb (part r) 3
+unfoldable pub of_short : List ℕ → Bool
+of_short r = (eqb (part r) 2 && not (eqb (kind_field r) 9)) || eqb (part r) 3
 
 -- "kinds 5 and 4 for each series in turn", `count` of them from series s on, and then the others, each of a kind that this set has
-unfoldable pub seriesThen : (count s : ℕ) → (List ℕ → Bool) → List (List ℕ) → Bool
-seriesThen zero s of rs = all of rs && inOrder rs && fewEnough rs
-seriesThen (suc count) s of [] = false
-seriesThen (suc count) s of (q ∷ []) = false
-seriesThen (suc count) s of (q ∷ r ∷ rs) =
-    eqb (kindField q) 5 && eqb (u8_at q 4) s && eqb (kindField r) 4 && eqb (u8_at r 4) s && seriesThen count (suc s) of rs
+unfoldable pub series_then : (count s : ℕ) → (List ℕ → Bool) → List (List ℕ) → Bool
+series_then zero s of rs = all of rs && in_order rs && few_enough rs
+series_then (suc count) s of [] = false
+series_then (suc count) s of (q ∷ []) = false
+series_then (suc count) s of (q ∷ r ∷ rs) =
+    eqb (kind_field q) 5 && eqb (u8_at q 4) s && eqb (kind_field r) 4 && eqb (u8_at r 4) s && series_then count (suc s) of rs
 
 -- "a short set, begun by 81 for 80"
 -- rule: (h)3, (h)7
 unfoldable pub is_set : List (List ℕ) → Bool
 is_set [] = false
 is_set (r ∷ rs) =
-    if eqb (kindField r) 80 then seriesThen 8 0 ofWhole rs
-    else if eqb (kindField r) 81 then seriesThen 8 0 ofShort rs
+    if eqb (kind_field r) 80 then series_then 8 0 of_whole rs
+    else if eqb (kind_field r) 81 then series_then 8 0 of_short rs
     else false
 
 -- The venue of a set --------------------------------------------------------------------------
@@ -245,52 +245,52 @@ places count none xs = xs ++ replicate (count - length xs) none
 
 -- the order in a record; an order of kind 1 shows all of it: "all size shown"
 -- rule: (h)3
-unfoldable pub regularTold : List ℕ → Regular
-regularTold r = order_at (if eqb (kindField r) 9 then u32_at r 18 else u32_at r 14) r
+unfoldable pub regular_told : List ℕ → Regular
+regular_told r = order_at (if eqb (kind_field r) 9 then u32_at r 18 else u32_at r 14) r
 
-unfoldable pub complexTold : List ℕ → Complex
-complexTold r = if eqb (kindField r) 10 then twoLegAt r (u8_at r 21) (u8_at r 22) else twoLegAt r 1 1
+unfoldable pub complex_told : List ℕ → Complex
+complex_told r = if eqb (kind_field r) 10 then two_leg_at r (u8_at r 21) (u8_at r 22) else two_leg_at r 1 1
 
-unfoldable pub editionTold : List ℕ → Edition
-editionTold r =
-    if eqb (kindField r) 8
+unfoldable pub edition_told : List ℕ → Edition
+edition_told r =
+    if eqb (kind_field r) 8
     then record { edition = u32_at r 5; message = u32_at r 9; figure = percentage; value = u8_at r 4 }
     else record { edition = u32_at r 6; message = u32_at r 10; figure = u8_at r 4; value = u8_at r 5 }
 
 -- the two records of a series, after the set's first one
-unfoldable pub listedTold : List (List ℕ) → (series : ℕ) → Listed
-listedTold rs s =
+unfoldable pub listed_told : List (List ℕ) → (series : ℕ) → Listed
+listed_told rs s =
     let status = get_or rs (2 * s + 1) [] in
     let away = get_or rs (2 * s + 2) [] in
     record { status = u8_at status 5; bid = u32_at away 5; offer = u32_at away 9 }
 
 -- the legging order at a place; none if no record has one
-unfoldable pub leggingTold : List (List ℕ) → (place : ℕ) → Legging
-leggingTold [] n = noLegging
-leggingTold (r ∷ rs) n =
-    if tellsLegging r && eqb (sortKey r) n
+unfoldable pub legging_told : List (List ℕ) → (place : ℕ) → Legging
+legging_told [] n = no_legging
+legging_told (r ∷ rs) n =
+    if tells_legging r && eqb (sort_key r) n
     then record { parent = u32_at r 4; price = u32_at r 10; quantity = u32_at r 14 }
-    else leggingTold rs n
+    else legging_told rs n
 
 -- the last 20 numbers: 0 where there were fewer
 -- rule: (m)4
-unfoldable pub generationsTold : List (List ℕ) → (series : ℕ) → Generations
-generationsTold rs s =
-    let numbers = map generationTold (keep (ofSeries s) rs) in
+unfoldable pub generations_told : List (List ℕ) → (series : ℕ) → Generations
+generations_told rs s =
+    let numbers = map generation_told (keep (of_series s) rs) in
     record { messages = replicate (20 - length numbers) 0 ++ numbers }
 
 -- the id reached; 0 if no record has one
 -- rule: (m)4
-unfoldable pub reachedTold : List (List ℕ) → ℕ
-reachedTold [] = 0
-reachedTold (r ∷ rs) = if eqb (kindField r) 84 then u32_at r 4 else reachedTold rs
+unfoldable pub reached_told : List (List ℕ) → ℕ
+reached_told [] = 0
+reached_told (r ∷ rs) = if eqb (kind_field r) 84 then u32_at r 4 else reached_told rs
 
 -- what the first record says
-unfoldable pub numberTold : List (List ℕ) → ℕ
-numberTold rs = u32_at (get_or rs 0 []) 4
+unfoldable pub number_told : List (List ℕ) → ℕ
+number_told rs = u32_at (get_or rs 0 []) 4
 
-unfoldable pub lastTold : List (List ℕ) → ℕ
-lastTold rs = u32_at (get_or rs 0 []) 8
+unfoldable pub last_told : List (List ℕ) → ℕ
+last_told rs = u32_at (get_or rs 0 []) 8
 
 -- f of `count` numbers from n on
 unfoldable pub upward : {A : Type 0} → (ℕ → A) → (n count : ℕ) → List A
@@ -299,29 +299,29 @@ upward f n (suc count) = f n ∷ upward f (suc n) count
 
 -- "A set without them means none generated and no id looked at"; a short one "means edition 0"
 -- rule: (h)2
-unfoldable pub venueTold : List (List ℕ) → Venue
-venueTold rs = record {
-  regular = places 128 noRegular (map regularTold (keep tellsRegular rs));
-  complex = places 32 noComplex (map complexTold (keep tellsComplex rs));
-  legging = upward (leggingTold rs) 0 16;
-  series = upward (listedTold rs) 0 8;
-  editions = places 32 noEdition (map editionTold (keep tellsEdition rs));
-  generations = upward (generationsTold rs) 0 8;
-  last = lastTold rs;
-  reached = reachedTold rs;
+unfoldable pub venue_told : List (List ℕ) → Venue
+venue_told rs = record {
+  regular = places 128 no_regular (map regular_told (keep tells_regular rs));
+  complex = places 32 no_complex (map complex_told (keep tells_complex rs));
+  legging = upward (legging_told rs) 0 16;
+  series = upward (listed_told rs) 0 8;
+  editions = places 32 no_edition (map edition_told (keep tells_edition rs));
+  generations = upward (generations_told rs) 0 8;
+  last = last_told rs;
+  reached = reached_told rs;
 }
 
 -- 9: a record's fields that no venue has a place for: a series or side out of range, equal ratios, which are kind 2's, and 0 where it would say nothing
 -- rule: (h)6
-unfoldable pub hasPlace : List ℕ → Bool
-hasPlace r =
-    if eqb (kindField r) 7 then isSeries (u8_at r 4) && held (u32_at r 6)
-    else if eqb (kindField r) 8 then held (u32_at r 5)
-    else if tellsRegular r then held (u32_at r 14)
-    else if tellsComplex r then held (u32_at r 17) && not (eqb (kindField r) 10 && oneToOne (complexTold r))
-    else if tellsLegging r then isSeries (u8_at r 8) && isSide (u8_at r 9) && held (u32_at r 14)
-    else if tellsGeneration r then isSeries (u8_at r 4) && held (u32_at r 5)
-    else not (eqb (kindField r) 84) || held (u32_at r 4)
+unfoldable pub has_place : List ℕ → Bool
+has_place r =
+    if eqb (kind_field r) 7 then is_series (u8_at r 4) && held (u32_at r 6)
+    else if eqb (kind_field r) 8 then held (u32_at r 5)
+    else if tells_regular r then held (u32_at r 14)
+    else if tells_complex r then held (u32_at r 17) && not (eqb (kind_field r) 10 && one_to_one (complex_told r))
+    else if tells_legging r then is_series (u8_at r 8) && is_side (u8_at r 9) && held (u32_at r 14)
+    else if tells_generation r then is_series (u8_at r 4) && held (u32_at r 5)
+    else not (eqb (kind_field r) 84) || held (u32_at r 4)
 
 -- The calls -----------------------------------------------------------------------------------
 
@@ -338,16 +338,16 @@ pub record WrittenSet : Type 0 where
 
 -- "Refused, … writing leaves the memory all zero and returns 0 bytes"
 -- rule: (h)7
-unfoldable pub notWritten : (number room : ℕ) → WrittenSet
-notWritten n room = record { number = n; written = 0; memory = replicate room 0 }
+unfoldable pub not_written : (number room : ℕ) → WrittenSet
+not_written n room = record { number = n; written = 0; memory = replicate room 0 }
 
 -- "Zeros follow the set". "9 before 15": "15, lent memory shorter than the record set"
 -- rule: (h)1, (h)5
-unfoldable pub writeSet : (number : ℕ) → Venue → (room : ℕ) → WrittenSet
-writeSet number v room =
-    let bytes = joined (setOf number v) in
-    if not (carries number v) then notWritten 9 room
-    else if ltb room (length bytes) then notWritten 15 room
+unfoldable pub write_set : (number : ℕ) → Venue → (room : ℕ) → WrittenSet
+write_set number v room =
+    let bytes = joined (set_of number v) in
+    if not (carries number v) then not_written 9 room
+    else if ltb room (length bytes) then not_written 15 room
     else record { number = 0; written = length bytes; memory = bytes ++ replicate (room - length bytes) 0 }
 
 -- what a reading call returns: its number, the venue, and its message number
@@ -358,16 +358,16 @@ pub record ReadSet : Type 0 where
 
 -- "Refused, reading returns a fresh venue and message number 0"
 -- rule: (h)7
-unfoldable pub notRead : (number : ℕ) → ReadSet
-notRead n = record { number = n; venue = freshVenue; message = 0 }
+unfoldable pub not_read : (number : ℕ) → ReadSet
+not_read n = record { number = n; venue = fresh_venue; message = 0 }
 
 -- "16 comes before 9"
-unfoldable pub readRow : List (List ℕ) → ReadSet
-readRow rs =
-    if not (is_set rs) then notRead 16
-    else if not (all hasPlace rs && carries (numberTold rs) (venueTold rs)) then notRead 9
-    else record { number = 0; venue = venueTold rs; message = numberTold rs }
+unfoldable pub read_row : List (List ℕ) → ReadSet
+read_row rs =
+    if not (is_set rs) then not_read 16
+    else if not (all has_place rs && carries (number_told rs) (venue_told rs)) then not_read 9
+    else record { number = 0; venue = venue_told rs; message = number_told rs }
 
 -- rule: (h)2
-unfoldable pub readSet : (memory : List ℕ) → ReadSet
-readSet memory = elim (heldIn memory) [ broken ↦ notRead 16 | row rs ↦ readRow rs ]
+unfoldable pub read_set : (memory : List ℕ) → ReadSet
+read_set memory = elim (held_in memory) [ broken ↦ not_read 16 | row rs ↦ read_row rs ]

@@ -5,5 +5,5 @@ use Rattle.rules.specs.Base.{if◌then◌else◌}
 use Rattle.rules.specs.Settings.{sets}
 
 -- x, or the value of an edition of the figure whose message is numbered no higher
-unfoldable pub valueAfter : (number figure x : ℕ) → Edition → ℕ
-valueAfter n f x e = if leb e.message n && sets f e then e.value else x
+unfoldable pub value_after : (number figure x : ℕ) → Edition → ℕ
+value_after n f x e = if leb e.message n && sets f e then e.value else x

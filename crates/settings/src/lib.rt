@@ -1,16 +1,16 @@
 // Request (d): the increments and the percentage in force at a message number.
 ghost use Rattle.std.specs.Prelude.{◌≡◌, [], ◌∷◌, map, length};
 ghost use Rattle.rules.specs.Calls as calls;
-ghost use Rattle.rules.specs.Settings.{inForce};
-ghost use Rattle.places.specs.Layout.{size, venueOf};
-ghost use Rattle.venue_bytes.specs.Held.{venueSize, venueFrom};
-ghost use Rattle.settings.specs.Forced.{valueAfter};
+ghost use Rattle.rules.specs.Settings.{in_force};
+ghost use Rattle.places.specs.Layout.{size, venue_of};
+ghost use Rattle.venue_bytes.specs.Held.{venue_size, venue_from};
+ghost use Rattle.settings.specs.Forced.{value_after};
 
 use rules::{Edition, Settings};
 
 // A figure's value after one more edition: the edition's value, where it sets the figure and its message is numbered no higher than `number`; else x.
 fn value_after(e: Edition, number: u32, f: u8, x: u8) -> u8
-    ensures { result ≡ valueAfter number f x e }
+    ensures { result ≡ value_after number f x e }
 {
     if number < e.message {
         return x;
@@ -27,7 +27,7 @@ fn value_after(e: Edition, number: u32, f: u8, x: u8) -> u8
 // A figure in force at a message number: the value of its last edition entered up to that message, else that of edition 0.
 fn value_at(numbers: &[u32], number: u32, f: u8) -> u8
     requires { length numbers.now ≡ size }
-    ensures { result ≡ inForce (venueOf numbers.now) number f }
+    ensures { result ≡ in_force (venue_of numbers.now) number f }
 {
     let mut x = arithmetic::base_figure(f);
     let mut i: usize = 0;
@@ -42,7 +42,7 @@ fn value_at(numbers: &[u32], number: u32, f: u8) -> u8
 // The eight increments.
 fn increments_at(numbers: &[u32], number: u32) -> [u8; 8]
     requires { length numbers.now ≡ size }
-    ensures { result ≡ map (inForce (venueOf numbers.now) number) (0 ∷ 1 ∷ 2 ∷ 3 ∷ 4 ∷ 5 ∷ 6 ∷ 7 ∷ []) }
+    ensures { result ≡ map (in_force (venue_of numbers.now) number) (0 ∷ 1 ∷ 2 ∷ 3 ∷ 4 ∷ 5 ∷ 6 ∷ 7 ∷ []) }
 {
     [
         value_at(numbers, number, 0),
@@ -58,8 +58,8 @@ fn increments_at(numbers: &[u32], number: u32) -> [u8; 8]
 
 // The settings, at any message number, of the venue that the bytes stand for. For an unsound venue they are 9 and zeros.
 pub fn settings(venue: &[u8], number: u32) -> Settings
-    requires { length venue.now ≡ venueSize }
-    ensures { result ≡ calls.settings (venueFrom venue.now) number }
+    requires { length venue.now ≡ venue_size }
+    ensures { result ≡ calls.settings (venue_from venue.now) number }
 {
     let mut numbers = [0u32; places::SIZE];
     if !soundness::load_bytes(&mut numbers, venue) {

@@ -14,18 +14,18 @@ use Rattle.rules.specs.declared.Verdict.{Verdict}
 use Rattle.rules.specs.declared.Verdict.TheVariants.{Stands, Fails}
 use Rattle.rules.specs.declared.Cause.{Cause}
 use Rattle.rules.specs.declared.Cause.TheVariants.{Worse, Unpaired, Executed, Withdrawn, OutOfBand, NotOpen, Replaced, Touched, NoUnit}
-use Rattle.rules.specs.Words.{noLegging}
-use Rattle.rules.specs.Standing.{verdict, verdictNumber, stands}
-use Rattle.rules.specs.Generation.{othersStand}
-use Rattle.places.specs.Layout.{upto, leggingIn, venueOf}
+use Rattle.rules.specs.Words.{no_legging}
+use Rattle.rules.specs.Standing.{verdict, verdict_number, stands}
+use Rattle.rules.specs.Generation.{others_stand}
+use Rattle.places.specs.Layout.{upto, legging_in, venue_of}
 use Rattle.levels.proofs.Scans.{upto-on, upto-end}
-use Rattle.removal.specs.Causes.{causeAt}
+use Rattle.removal.specs.Causes.{cause_at}
 use Rattle.places.proofs.Parts.{legging-at}
 use Rattle.settling.proofs.PartsLaws.{verdict-free}
 
 -- Causes ---------------------------------------------------------------------------------------
 
-pub number_small : (x : Verdict) → verdictNumber x < 16
+pub number_small : (x : Verdict) → verdict_number x < 16
 number_small Stands = omega arith
 number_small (Fails Worse) = omega arith
 number_small (Fails Unpaired) = omega arith
@@ -39,21 +39,21 @@ number_small (Fails NoUnit) = omega arith
 
 -- a number put below the causes is that of place 0, and the others move on by one place
 module _ (causes x : ℕ) (h : x < 16) where
-  cause-first : causeAt (causes * 16 + x) 0 ≡ x
-  unfolding causeAt
+  cause-first : cause_at (causes * 16 + x) 0 ≡ x
+  unfolding cause_at
   cause-first = omega arith
 
-  cause-next : (k : ℕ) → causeAt (causes * 16 + x) (suc k) ≡ causeAt causes k
-  unfolding causeAt
+  cause-next : (k : ℕ) → cause_at (causes * 16 + x) (suc k) ≡ cause_at causes k
+  unfolding cause_at
   cause-next k =
       let z : (causes * 16 + x) / 16 ≡ causes = omega arith in
-      ap (λ (m : ℕ). causeAt m k) z
+      ap (λ (m : ℕ). cause_at m k) z
 
 -- the causes of the places from n on
 pub record CausesFrom (b : List ℕ) (causes n : ℕ) : Type 0 where
   pub few : n ≤ 16
   pub small : causes < 16 ^ (16 - n)
-  pub cause : (k : ℕ) → n + k < 16 → causeAt causes k ≡ verdictNumber (verdict (venueOf b) (n + k) (leggingIn b (n + k)))
+  pub cause : (k : ℕ) → n + k < 16 → cause_at causes k ≡ verdict_number (verdict (venue_of b) (n + k) (legging_in b (n + k)))
 
 module _ (b : List ℕ) (causes n : ℕ) (i : CausesFrom b causes n) (p : 0 < n) where
   -- there is room for one more
@@ -62,12 +62,12 @@ module _ (b : List ℕ) (causes n : ℕ) (i : CausesFrom b causes n) (p : 0 < n)
       let r = pow-le-pow_right {n = 16} (omega arith) {i = 16 - n} {j = 15} (omega arith) in
       omega (arith, i.small)
 
-  causes-by : (x : ℕ) → x < 16 → x ≡ verdictNumber (verdict (venueOf b) (n - 1) (leggingIn b (n - 1))) → CausesFrom b (causes * 16 + x) (n - 1)
+  causes-by : (x : ℕ) → x < 16 → x ≡ verdict_number (verdict (venue_of b) (n - 1) (legging_in b (n - 1))) → CausesFrom b (causes * 16 + x) (n - 1)
   causes-by x h e =
       let z : 16 - (n - 1) ≡ suc (16 - n) = omega (arith, i.few) in
       record { few = omega (arith, i.few); small = rw z (omega (arith, i.small)); cause = go }
     where
-      go : (k : ℕ) → n - 1 + k < 16 → causeAt (causes * 16 + x) k ≡ verdictNumber (verdict (venueOf b) (n - 1 + k) (leggingIn b (n - 1 + k)))
+      go : (k : ℕ) → n - 1 + k < 16 → cause_at (causes * 16 + x) k ≡ verdict_number (verdict (venue_of b) (n - 1 + k) (legging_in b (n - 1 + k)))
       go zero q =
           let z : n - 1 + 0 ≡ n - 1 = omega arith in
           rw z (cause-first causes x h ∙ e)
@@ -76,16 +76,16 @@ module _ (b : List ℕ) (causes n : ℕ) (i : CausesFrom b causes n) (p : 0 < n)
           rw z (cause-next causes x h k ∙ i.cause k (omega arith))
 
   -- a place that stands
-  pub causes-past : verdict (venueOf b) (n - 1) (leggingIn b (n - 1)) ≡ Stands → CausesFrom b (causes * 16) (n - 1)
+  pub causes-past : verdict (venue_of b) (n - 1) (legging_in b (n - 1)) ≡ Stands → CausesFrom b (causes * 16) (n - 1)
   causes-past e =
       let z : causes * 16 + 0 ≡ causes * 16 = omega arith in
-      rw z at (causes-by 0 (omega arith) (ap verdictNumber (sym e)))
+      rw z at (causes-by 0 (omega arith) (ap verdict_number (sym e)))
 
-  pub causes-on : (x : ℕ) (r : Verdict) → x ≡ verdictNumber r → r ≡ verdict (venueOf b) (n - 1) (get_or (venueOf b).legging (n - 1) noLegging) → CausesFrom b (causes * 16 + x) (n - 1)
+  pub causes-on : (x : ℕ) (r : Verdict) → x ≡ verdict_number r → r ≡ verdict (venue_of b) (n - 1) (get_or (venue_of b).legging (n - 1) no_legging) → CausesFrom b (causes * 16 + x) (n - 1)
   causes-on x r ex er =
-      causes-by x (omega (arith, number_small r)) (ex ∙ ap verdictNumber (er ∙ ap (verdict (venueOf b) (n - 1)) (legging-at b (n - 1) (omega (arith, i.few)))))
+      causes-by x (omega (arith, number_small r)) (ex ∙ ap verdict_number (er ∙ ap (verdict (venue_of b) (n - 1)) (legging-at b (n - 1) (omega (arith, i.few)))))
 
-pub causes-all : (b : List ℕ) (causes n : ℕ) → CausesFrom b causes n → n ≡ 0 → (k : ℕ) → k < 16 → causeAt causes k ≡ verdictNumber (verdict (venueOf b) k (leggingIn b k))
+pub causes-all : (b : List ℕ) (causes n : ℕ) → CausesFrom b causes n → n ≡ 0 → (k : ℕ) → k < 16 → cause_at causes k ≡ verdict_number (verdict (venue_of b) k (legging_in b k))
 causes-all b causes n i z k q =
     let e : n + k ≡ k = omega arith in
     rw e at (i.cause k (omega arith))
@@ -93,43 +93,43 @@ causes-all b causes n i z k q =
 -- Whether the others stand --------------------------------------------------------------------
 
 -- the legging places of a venue, as a scan reads them
-legging-scan : (b : List ℕ) → upto (leggingIn b) 0 (16 - 0) ≡ (venueOf b).legging
-unfolding venueOf
+legging-scan : (b : List ℕ) → upto (legging_in b) 0 (16 - 0) ≡ (venue_of b).legging
+unfolding venue_of
 legging-scan b = refl
 
 module _ (b : List ℕ) (m n : ℕ) where
   -- those from place n on
-  abbrev pub standFrom : Bool
-  standFrom = othersStand (venueOf b) m n (upto (leggingIn b) n (16 - n))
+  abbrev pub stand_from : Bool
+  stand_from = others_stand (venue_of b) m n (upto (legging_in b) n (16 - n))
 
-  stand-on : n < 16 → standFrom ≡ ((eqb n m || stands (verdict (venueOf b) n (leggingIn b n))) && othersStand (venueOf b) m (n + 1) (upto (leggingIn b) (n + 1) (16 - (n + 1))))
-  unfolding othersStand
+  stand-on : n < 16 → stand_from ≡ ((eqb n m || stands (verdict (venue_of b) n (legging_in b n))) && others_stand (venue_of b) m (n + 1) (upto (legging_in b) (n + 1) (16 - (n + 1))))
+  unfolding others_stand
   stand-on h =
-      ap (othersStand (venueOf b) m n) (upto-on (leggingIn b) n 16 h)
-      ∙ ap (λ (k : ℕ). (eqb n m || stands (verdict (venueOf b) n (leggingIn b n))) && othersStand (venueOf b) m k (upto (leggingIn b) (n + 1) (16 - (n + 1)))) (sym (add-one n))
+      ap (others_stand (venue_of b) m n) (upto-on (legging_in b) n 16 h)
+      ∙ ap (λ (k : ℕ). (eqb n m || stands (verdict (venue_of b) n (legging_in b n))) && others_stand (venue_of b) m k (upto (legging_in b) (n + 1) (16 - (n + 1)))) (sym (add-one n))
 
-  pub stand-own : n < 16 → n ≡ m → othersStand (venueOf b) m (n + 1) (upto (leggingIn b) (n + 1) (16 - (n + 1))) ≡ standFrom
+  pub stand-own : n < 16 → n ≡ m → others_stand (venue_of b) m (n + 1) (upto (legging_in b) (n + 1) (16 - (n + 1))) ≡ stand_from
   stand-own h e = sym (stand-on h ∙ rw (eq-eqb n m e))
 
-  module _ (h : n < 16) (k : n ≡ m → ⊥) (x : Verdict) (ex : x ≡ verdict (venueOf b) n (get_or (venueOf b).legging n noLegging)) where
-    here : verdict (venueOf b) n (leggingIn b n) ≡ x
-    here = ap (verdict (venueOf b) n) (sym (legging-at b n h)) ∙ sym ex
+  module _ (h : n < 16) (k : n ≡ m → ⊥) (x : Verdict) (ex : x ≡ verdict (venue_of b) n (get_or (venue_of b).legging n no_legging)) where
+    here : verdict (venue_of b) n (legging_in b n) ≡ x
+    here = ap (verdict (venue_of b) n) (sym (legging-at b n h)) ∙ sym ex
 
-    pub stand-past : x ≡ Stands → othersStand (venueOf b) m (n + 1) (upto (leggingIn b) (n + 1) (16 - (n + 1))) ≡ standFrom
+    pub stand-past : x ≡ Stands → others_stand (venue_of b) m (n + 1) (upto (legging_in b) (n + 1) (16 - (n + 1))) ≡ stand_from
     unfolding stands
     stand-past e = sym (stand-on h ∙ rw (ne_eqb n m k, here, e))
 
-    pub stand-fails : (c : Cause) → x ≡ Fails c → false ≡ standFrom
+    pub stand-fails : (c : Cause) → x ≡ Fails c → false ≡ stand_from
     unfolding stands
     stand-fails c e = sym (stand-on h ∙ rw (ne_eqb n m k, here, e))
 
-  pub stand-free : n < 16 → (n ≡ m → ⊥) → (l : Legging) → l ≡ leggingIn b n → l.quantity ≡ 0 →
-      othersStand (venueOf b) m (n + 1) (upto (leggingIn b) (n + 1) (16 - (n + 1))) ≡ standFrom
-  stand-free h k l el q = stand-past h k Stands (verdict-free (venueOf b) n l (get_or (venueOf b).legging n noLegging) (el ∙ sym (legging-at b n h)) q) refl
+  pub stand-free : n < 16 → (n ≡ m → ⊥) → (l : Legging) → l ≡ legging_in b n → l.quantity ≡ 0 →
+      others_stand (venue_of b) m (n + 1) (upto (legging_in b) (n + 1) (16 - (n + 1))) ≡ stand_from
+  stand-free h k l el q = stand-past h k Stands (verdict-free (venue_of b) n l (get_or (venue_of b).legging n no_legging) (el ∙ sym (legging-at b n h)) q) refl
 
-  pub stand-end : 16 ≤ n → true ≡ standFrom
-  unfolding othersStand
-  stand-end h = rw (upto-end (leggingIn b) n 16 h)
+  pub stand-end : 16 ≤ n → true ≡ stand_from
+  unfolding others_stand
+  stand-end h = rw (upto-end (legging_in b) n 16 h)
 
-pub stand-all : (b : List ℕ) (m : ℕ) → standFrom b m 0 ≡ othersStand (venueOf b) m 0 (venueOf b).legging
-stand-all b m = ap (othersStand (venueOf b) m 0) (legging-scan b)
+pub stand-all : (b : List ℕ) (m : ℕ) → stand_from b m 0 ≡ others_stand (venue_of b) m 0 (venue_of b).legging
+stand-all b m = ap (others_stand (venue_of b) m 0) (legging-scan b)

@@ -6,5 +6,5 @@ use Rattle.places.specs.declared.Level.{Level}
 use Rattle.levels.specs.declared.TakenLevels.{TakenLevels}
 
 -- the level that the other leg of c takes, the leg that is not in series s
-unfoldable pub otherTaken : TakenLevels → Complex → (series : ℕ) → Level
-otherTaken t c s = if eqb c.series1 s then t.second else t.first
+unfoldable pub other_taken : TakenLevels → Complex → (series : ℕ) → Level
+other_taken t c s = if eqb c.series1 s then t.second else t.first

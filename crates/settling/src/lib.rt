@@ -1,18 +1,18 @@
 // The test by which legging orders stand, and settling.
 ghost use Rattle.std.specs.Prelude.{◌≡◌, true, not, ℕ, ◌<◌, eqb, get_or, length};
 ghost use Rattle.rules.specs.Step.{mask};
-ghost use Rattle.rules.specs.Words.{noLegging};
+ghost use Rattle.rules.specs.Words.{no_legging};
 ghost use Rattle.rules.specs.Settings.{increment};
-ghost use Rattle.rules.specs.Prices.{better, displayedPrice};
+ghost use Rattle.rules.specs.Prices.{better, displayed_price};
 ghost use Rattle.rules.specs.Removal.{remove};
-ghost use Rattle.rules.specs.Standing.{otherClear, pairs, verdictOf, verdict, verdictNumber, settle};
-ghost use Rattle.rules.specs.Generation.{othersStand};
+ghost use Rattle.rules.specs.Standing.{other_clear, pairs, verdict_of, verdict, verdict_number, settle};
+ghost use Rattle.rules.specs.Generation.{others_stand};
 ghost use Rattle.records.specs.Seen.{seen};
 ghost use Rattle.records.specs.Stage.{stage, ◌does◌};
-ghost use Rattle.places.specs.Layout.{size, leggingIn, venueOf, SameCounts};
-ghost use Rattle.removal.specs.Causes.{causeAt};
-ghost use Rattle.settling.specs.Parts.{otherTaken};
-ghost use Rattle.settling.specs.Asked.{asksSeries, UnaskedFrom};
+ghost use Rattle.places.specs.Layout.{size, legging_in, venue_of, SameCounts};
+ghost use Rattle.removal.specs.Causes.{cause_at};
+ghost use Rattle.settling.specs.Parts.{other_taken};
+ghost use Rattle.settling.specs.Asked.{asks_series, UnaskedFrom};
 ghost use Rattle.settling.specs.Requirements.{GridAsked, SeriesSettles, StandingNumbers, SideSettles, WrittenSettles};
 ghost use Rattle.levels.specs.Requirements.{TakenReady, GridReady, GridPlaceReady, SidesReady};
 ghost use Rattle.places.specs.Requirements.{RightNumbers, PlaceReady, IncrementReady};
@@ -28,7 +28,7 @@ const EVERY_SERIES: u8 = 8;
 // The displayed price of p at side d of series s.
 pub fn displayed_in_series(numbers: &[u32], s: u8, d: u8, p: u32) -> u64
     requires { IncrementReady numbers.now s }
-    ensures { result ≡ displayedPrice (increment (venueOf numbers.now) s) d p }
+    ensures { result ≡ displayed_price (increment (venue_of numbers.now) s) d p }
 {
     arithmetic::displayed_price(prices::increment_of(numbers, s), d, p)
 }
@@ -36,14 +36,14 @@ pub fn displayed_in_series(numbers: &[u32], s: u8, d: u8, p: u32) -> u64
 // The displayed price of p at side d of series s is no worse than `best`, the best regular price of that side.
 pub fn displayed_no_worse(numbers: &[u32], best: u32, s: u8, d: u8, p: u32) -> bool
     requires { IncrementReady numbers.now s }
-    ensures { result ≡ not (better d best (displayedPrice (increment (venueOf numbers.now) s) d p)) }
+    ensures { result ≡ not (better d best (displayed_price (increment (venue_of numbers.now) s) d p)) }
 {
     !arithmetic::is_better_wide(d, best as u64, displayed_in_series(numbers, s, d, p))
 }
 
 // The level that the other leg of c takes, the leg that is not in series s.
 pub fn other_level(taken: TakenLevels, c: Complex, s: u8) -> Level
-    ensures { result ≡ otherTaken taken c s }
+    ensures { result ≡ other_taken taken c s }
 {
     if c.series1 == s {
         return taken.second;
@@ -54,7 +54,7 @@ pub fn other_level(taken: TakenLevels, c: Complex, s: u8) -> Level
 // The clear price that the other leg of c takes.
 pub fn other_clear(numbers: &[u32], taken: TakenLevels, c: Complex, s: u8) -> u32
     requires { TakenReady numbers.now taken c }
-    ensures { result ≡ otherClear (venueOf numbers.now) c s }
+    ensures { result ≡ other_clear (venue_of numbers.now) c s }
 {
     let other = prices::other_leg(c, s);
     let best = other_level(taken, c, s);
@@ -69,7 +69,7 @@ pub fn other_clear(numbers: &[u32], taken: TakenLevels, c: Complex, s: u8) -> u3
 // The other leg of c has a clear price, the net of that price and the legging order's is at most N, and the size there is enough.
 pub fn can_pair(numbers: &[u32], taken: TakenLevels, c: Complex, s: u8, d: u8, l: Legging) -> bool
     requires { TakenReady numbers.now taken c }
-    ensures { result ≡ pairs (venueOf numbers.now) c s d l.price l.quantity }
+    ensures { result ≡ pairs (venue_of numbers.now) c s d l.price l.quantity }
 {
     let clear = other_clear(numbers, taken, c, s);
     if clear == 0 {
@@ -88,7 +88,7 @@ pub fn can_pair(numbers: &[u32], taken: TakenLevels, c: Complex, s: u8, d: u8, l
 // The test of a legging order of c at side d of series s: of the causes that apply, the first of 1, 5, 2, 6.
 pub fn test_order(numbers: &[u32], sides: LegSides, c: Complex, s: u8, d: u8, l: Legging) -> Verdict
     requires { SidesReady numbers.now sides c s d }
-    ensures { result ≡ verdictOf (venueOf numbers.now) c s d l }
+    ensures { result ≡ verdict_of (venue_of numbers.now) c s d l }
 {
     if !displayed_no_worse(numbers, sides.own, s, d, l.price) {
         return Verdict::Fails(Cause::Worse);
@@ -109,7 +109,7 @@ pub fn test_order(numbers: &[u32], sides: LegSides, c: Complex, s: u8, d: u8, l:
 // The verdict on what stands at place n.
 pub fn judge(numbers: &[u32], g: [[Level; 2]; 8], n: usize) -> Verdict
     requires { GridPlaceReady numbers.now g n }
-    ensures { result ≡ verdict (venueOf numbers.now) n (get_or (venueOf numbers.now).legging n noLegging) }
+    ensures { result ≡ verdict (venue_of numbers.now) n (get_or (venue_of numbers.now).legging n no_legging) }
 {
     let l = places::legging_at(numbers, n);
     if l.quantity == 0 {
@@ -125,7 +125,7 @@ pub fn judge(numbers: &[u32], g: [[Level; 2]; 8], n: usize) -> Verdict
 // The test of what stands at place n reads something of series s: the place or a leg of the parent is in s. A free place has no test.
 fn asks_series(numbers: &[u32], n: usize, s: u8) -> bool
     requires { PlaceReady numbers.now n 16 }
-    ensures { result ≡ asksSeries (venueOf numbers.now) s n (leggingIn numbers.now n) }
+    ensures { result ≡ asks_series (venue_of numbers.now) s n (legging_in numbers.now n) }
 {
     let l = places::legging_at(numbers, n);
     if l.quantity == 0 {
@@ -164,7 +164,7 @@ fn places_asked(numbers: &[u32], s: u8) -> usize
 // From place k on there is no place to test.
 fn verdicts(numbers: &[u32], g: [[Level; 2]; 8], s: u8, k: usize) -> u64
     requires { GridAsked numbers.now g s k }
-    ensures { (n : ℕ) → n < 16 → causeAt result n ≡ verdictNumber (verdict (venueOf numbers.now) n (leggingIn numbers.now n)) }
+    ensures { (n : ℕ) → n < 16 → cause_at result n ≡ verdict_number (verdict (venue_of numbers.now) n (legging_in numbers.now n)) }
 {
     let mut causes: u64 = 0;
     let mut n = k;
@@ -182,7 +182,7 @@ fn verdicts(numbers: &[u32], g: [[Level; 2]; 8], s: u8, k: usize) -> u64
 // No legging place is filled.
 pub fn none_stands(numbers: &[u32]) -> bool
     requires { RightNumbers numbers.now }
-    ensures { result ≡ eqb (mask (venueOf numbers.now).legging) 0 }
+    ensures { result ≡ eqb (mask (venue_of numbers.now).legging) 0 }
 {
     places::mask_of(numbers) == 0
 }
@@ -191,7 +191,7 @@ pub fn none_stands(numbers: &[u32]) -> bool
 // function makes the grid only where there is an order to test.
 fn remove_failing(numbers: &mut [u32], s: u8, out: &mut [u8], at: usize) -> usize
     requires { SeriesSettles numbers.old s }
-    ensures result_after { stage (venueOf numbers.new) out.new result ≡ seen out.old at does remove (verdict (venueOf numbers.old)) (venueOf numbers.old) }
+    ensures result_after { stage (venue_of numbers.new) out.new result ≡ seen out.old at does remove (verdict (venue_of numbers.old)) (venue_of numbers.old) }
     ensures counts { SameCounts numbers.old numbers.new }
 {
     if none_stands(numbers) {
@@ -212,7 +212,7 @@ fn remove_failing(numbers: &mut [u32], s: u8, out: &mut [u8], at: usize) -> usiz
 // Each order shows again, and then every legging order is tested.
 pub fn settle_all(numbers: &mut [u32], out: &mut [u8], at: usize) -> usize
     requires { RightNumbers numbers.old }
-    ensures result_after { stage (venueOf numbers.new) out.new result ≡ seen out.old at does settle (venueOf numbers.old) }
+    ensures result_after { stage (venue_of numbers.new) out.new result ≡ seen out.old at does settle (venue_of numbers.old) }
     ensures counts { SameCounts numbers.old numbers.new }
 {
     levels::show_again(numbers);
@@ -222,7 +222,7 @@ pub fn settle_all(numbers: &mut [u32], out: &mut [u8], at: usize) -> usize
 // Settling where only legging orders whose test reads something of series s can fail. Where orders show again, every legging order is tested.
 pub fn settle_series(numbers: &mut [u32], s: u8, out: &mut [u8], at: usize) -> usize
     requires { SeriesSettles numbers.old s }
-    ensures result_after { stage (venueOf numbers.new) out.new result ≡ seen out.old at does settle (venueOf numbers.old) }
+    ensures result_after { stage (venue_of numbers.new) out.new result ≡ seen out.old at does settle (venue_of numbers.old) }
     ensures counts { SameCounts numbers.old numbers.new }
 {
     if !places::none_shows_again(numbers) {
@@ -234,7 +234,7 @@ pub fn settle_series(numbers: &mut [u32], s: u8, out: &mut [u8], at: usize) -> u
 // Settling where every legging order stands: nothing goes. Where orders show again, every legging order is tested.
 pub fn settle_standing(numbers: &mut [u32], out: &mut [u8], at: usize) -> usize
     requires { StandingNumbers numbers.old }
-    ensures result_after { stage (venueOf numbers.new) out.new result ≡ seen out.old at does settle (venueOf numbers.old) }
+    ensures result_after { stage (venue_of numbers.new) out.new result ≡ seen out.old at does settle (venue_of numbers.old) }
     ensures counts { SameCounts numbers.old numbers.new }
 {
     if places::none_shows_again(numbers) {
@@ -254,7 +254,7 @@ pub fn settle_side(
     at: usize,
 ) -> usize
     requires { SideSettles numbers.old s d before }
-    ensures result_after { stage (venueOf numbers.new) out.new result ≡ seen out.old at does settle (venueOf numbers.old) }
+    ensures result_after { stage (venue_of numbers.new) out.new result ≡ seen out.old at does settle (venue_of numbers.old) }
     ensures counts { SameCounts numbers.old numbers.new }
 {
     let level = places::level_at(numbers, arithmetic::place_of(s, d));
@@ -270,7 +270,7 @@ pub fn settle_side(
 // Settling where every legging order stands if nothing was written since the position `from`.
 pub fn settle_written(numbers: &mut [u32], from: usize, out: &mut [u8], at: usize) -> usize
     requires { WrittenSettles numbers.old (length out.old) from at }
-    ensures result_after { stage (venueOf numbers.new) out.new result ≡ seen out.old at does settle (venueOf numbers.old) }
+    ensures result_after { stage (venue_of numbers.new) out.new result ≡ seen out.old at does settle (venue_of numbers.old) }
     ensures counts { SameCounts numbers.old numbers.new }
 {
     if at != from {
@@ -286,7 +286,7 @@ pub fn settle_written(numbers: &mut [u32], from: usize, out: &mut [u8], at: usiz
 // Every legging order except the one at place m passes its test.
 pub fn others_stand(numbers: &[u32], g: [[Level; 2]; 8], m: usize) -> bool
     requires { GridReady numbers.now g }
-    ensures { result ≡ othersStand (venueOf numbers.now) m 0 (venueOf numbers.now).legging }
+    ensures { result ≡ others_stand (venue_of numbers.now) m 0 (venue_of numbers.now).legging }
 {
     let mut n: usize = 0;
     while n < 16 {

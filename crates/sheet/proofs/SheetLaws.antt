@@ -11,15 +11,15 @@ use lib.Seq.{drop-drop}
 use borrow.Author.Tests.{eqb-true, eqb-false}
 use Rattle.rules.specs.declared.Returned.{Returned}
 use Rattle.rules.specs.declared.Venue.{Venue}
-use Rattle.rules.specs.Bytes.{lengthField}
+use Rattle.rules.specs.Bytes.{length_field}
 use Rattle.rules.specs.Records.{Report, records}
 use Rattle.rules.specs.Step.{answered, step}
 use Rattle.rules.specs.Calls.{Call, after, called, ends, one}
-use Rattle.rules.proofs.CallsLaws.{not-exceeds, oneFrom-done, torn-not}
+use Rattle.rules.proofs.CallsLaws.{not-exceeds, one_from-done, torn-not}
 use Rattle.rules.proofs.Reading.{reads-back}
 use Rattle.rules.proofs.RefusalsLaws.{whole}
 use Rattle.demands.specs.Soundness.{SoundAt}
-use Rattle.demands.specs.Most.{mostReportBytes}
+use Rattle.demands.specs.Most.{most_report_bytes}
 use Rattle.demands.proofs.Calls.{fresh-sound, stays-sound, step_fits}
 use Rattle.demands.proofs.Most.{writes-at-most}
 use Rattle.engine.specs.Runs.{call_of}
@@ -30,7 +30,7 @@ use Rattle.text.specs.Typing.{◌types◌}
 use Rattle.text.proofs.TypingLaws.{types-fits}
 use Rattle.text.proofs.WidthsLaws.{text-at-most}
 use Rattle.sheet.specs.declared.Progress.{Progress}
-use Rattle.sheet.specs.Sheet.{Printed, Prints, Stands, Whole, nonePrinted, messageEnd, left, more, mostInput, mostText, sheetText, started, textFrom}
+use Rattle.sheet.specs.Sheet.{Printed, Prints, Stands, Whole, none_printed, message_end, left, more, most_input, most_text, sheet_text, started, text_from}
 use Rattle.sheet.proofs.Texts.{begins, text-last, text-none, text-on}
 
 -- The call ------------------------------------------------------------------------------------
@@ -42,13 +42,13 @@ record Did (v : Venue) (n : ℕ) (bs : List ℕ) (r : Returned) (report : List �
   venue : r.venue ≡ (step v (suc n) bs).effect.venue
   reports : records report ≡ (step v (suc n) bs).effect.reports
 
-did : (v : Venue) (n room : ℕ) (bs : List ℕ) (r : Returned) (report : List ℕ) → SoundAt (suc n) v → n < 4294967295 → mostReportBytes ≤ room →
+did : (v : Venue) (n room : ℕ) (bs : List ℕ) (r : Returned) (report : List ℕ) → SoundAt (suc n) v → n < 4294967295 → most_report_bytes ≤ room →
     call_of r report ≡ one v n room bs → Did v n bs r report
 unfolding one called after ends
 did v n room bs r report s few enough e =
     let a = step v (suc n) bs in
     let w = writes-at-most v s.venue (suc n) bs in
-    let o = oneFrom-done v n room bs s.venue.is s.next (not-exceeds (suc n) room a.effect.reports (omega arith) (omega arith)) in
+    let o = one_from-done v n room bs s.venue.is s.next (not-exceeds (suc n) room a.effect.reports (omega arith) (omega arith)) in
     let x : call_of r report ≡ called room (after a.effect (ends a.refused a.effect.venue)) = e ∙ ap (called room) o in
     record {
       number = ap (λ (c : Call). c.returned.number) x;
@@ -79,7 +79,7 @@ stood l m text end h e =
 
 -- One message more ----------------------------------------------------------------------------
 
-module _ (m : List ℕ) (p : Progress) (stands : Stands m p) (inside : p.at < length m) (few : length m ≤ mostInput) where
+module _ (m : List ℕ) (p : Progress) (stands : Stands m p) (inside : p.at < length m) (few : length m ≤ most_input) where
   -- what is left of the list
   abbrev bs : List ℕ
   bs = drop p.at m
@@ -108,25 +108,25 @@ module _ (m : List ℕ) (p : Progress) (stands : Stands m p) (inside : p.at < le
     numbers = let q = bs-length in let h = stands.counted in omega arith
 
     -- what a message leaves to print
-    left-on : (next end : ℕ) → left m (then r next end) ≡ textFrom after-it (suc p.done) (drop next bs)
+    left-on : (next end : ℕ) → left m (then r next end) ≡ text_from after-it (suc p.done) (drop next bs)
     unfolding left
     left-on next end =
         let n : p.done + r.done ≡ suc p.done = (let h = d.done in omega arith) in
         rw (n, d.venue, drop-drop next p.at m)
 
     -- the message was torn, or not
-    by_number : (next : ℕ) → next ≡ messageEnd r.number bs → (Q : Type 0) → (refused ≡ 1 → next ≡ length bs → Q) → (refused ≢ 1 → next ≡ lengthField bs → Q) → Q
-    unfolding messageEnd
+    by_number : (next : ℕ) → next ≡ message_end r.number bs → (Q : Type 0) → (refused ≡ 1 → next ≡ length bs → Q) → (refused ≢ 1 → next ≡ length_field bs → Q) → Q
+    unfolding message_end
     by_number next e Q torn on = go (eqb refused 1) refl
       where
-        n : next ≡ messageEnd refused bs
+        n : next ≡ message_end refused bs
         n = rw d.number at e
 
         go : (t : Bool) → eqb refused 1 ≡ t → Q
         go true x = torn (eqb-true refused 1 x) (n ∙ rw x)
         go false x = on (eqb-false refused 1 x) (n ∙ rw x)
 
-    left_is : (next end : ℕ) → next ≡ messageEnd r.number bs → text_of reports ++ left m (then r next end) ≡ left m p
+    left_is : (next end : ℕ) → next ≡ message_end r.number bs → text_of reports ++ left m (then r next end) ≡ left m p
     unfolding left
     left_is next end e =
         by_number next e _
@@ -136,24 +136,24 @@ module _ (m : List ℕ) (p : Progress) (stands : Stands m p) (inside : p.at < le
         ∙ append-nil (text_of reports)
         ∙ sym (text-last p.venue p.done bs stands.sound some numbers t))
         (λ t k.
-        ap (λ (x : List ℕ). text_of reports ++ x) (left-on next end ∙ ap (λ (j : ℕ). textFrom after-it (suc p.done) (drop j bs)) k)
+        ap (λ (x : List ℕ). text_of reports ++ x) (left-on next end ∙ ap (λ (j : ℕ). text_from after-it (suc p.done) (drop j bs)) k)
         ∙ sym (text-on p.venue p.done bs stands.sound some numbers t))
 
-    moved : (next : ℕ) → next ≡ messageEnd r.number bs → (0 < next) × (next ≤ length bs)
+    moved : (next : ℕ) → next ≡ message_end r.number bs → (0 < next) × (next ≤ length bs)
     moved next e =
         by_number next e _ (λ _ k. (let z = some in omega (arith, bs-length), omega arith))
         (λ t k. let w = whole bs (torn-not p.venue p.done bs t) in (omega arith, omega arith))
 
-  module _ (room : ℕ) (r : Returned) (report : List ℕ) (enough : mostReportBytes ≤ room) (e : call_of r report ≡ one p.venue p.done room (take (length m - p.at) bs)) where
+  module _ (room : ℕ) (r : Returned) (report : List ℕ) (enough : most_report_bytes ≤ room) (e : call_of r report ≡ one p.venue p.done room (take (length m - p.at) bs)) where
     was : Did p.venue p.done bs r report
     was = did p.venue p.done room bs r report stands.sound (let h = stands.counted in omega arith) enough (e ∙ ap (one p.venue p.done room) (part-all m p.at))
 
     pub one-done : r.done ≡ 1
     one-done = was.done
 
-    module _ (next : ℕ) (k : next ≡ messageEnd r.number (take (length m - p.at) bs)) where
-      end_is : next ≡ messageEnd r.number bs
-      end_is = k ∙ ap (messageEnd r.number) (part-all m p.at)
+    module _ (next : ℕ) (k : next ≡ message_end r.number (take (length m - p.at) bs)) where
+      end_is : next ≡ message_end r.number bs
+      end_is = k ∙ ap (message_end r.number) (part-all m p.at)
 
       forward : (0 < next) × (next ≤ length bs)
       forward = moved room r report was next end_is
@@ -161,7 +161,7 @@ module _ (m : List ℕ) (p : Progress) (stands : Stands m p) (inside : p.at < le
       pub within : p.at + next ≤ length m
       within = let y = forward.1 in let z = bs-length in omega arith
 
-      pub advanced : (l text : List ℕ) (end : ℕ) → mostText ≤ length l → seen text end ≡ seen l 0 types text_of (records report) → Prints m p text (then r next end)
+      pub advanced : (l text : List ℕ) (end : ℕ) → most_text ≤ length l → seen text end ≡ seen l 0 types text_of (records report) → Prints m p text (then r next end)
       unfolding step answered
       advanced l text end wide q = record {
         is = ap (λ (x : List ℕ). x ++ left m (then r next end)) st.is ∙ left_is room r report was next end end_is;
@@ -187,8 +187,8 @@ module _ (m : List ℕ) (p : Progress) (stands : Stands m p) (inside : p.at < le
 -- The whole list ------------------------------------------------------------------------------
 
 -- what was printed and what is left are the sheet
-joined : (m text : List ℕ) (p : Progress) → Printed m text p → text ++ left m p ≡ sheetText m
-joined m text p nonePrinted = begins m
+joined : (m text : List ℕ) (p : Progress) → Printed m text p → text ++ left m p ≡ sheet_text m
+joined m text p none_printed = begins m
 joined m text p (more {text = old} {p = q} memory r before x) =
     append_assoc old (take r.written memory) (left m r) ∙ ap (λ (y : List ℕ). old ++ y) x.is ∙ joined m old q before
 
@@ -207,8 +207,8 @@ pub record Going (m : List ℕ) (p : Progress) (report text : List ℕ) : Type 0
   pub printed : List ℕ
   pub so_far : Printed m printed p
   pub stands : Stands m p
-  pub report-length : length report ≡ mostReportBytes
-  pub text-length : length text ≡ mostText
+  pub report-length : length report ≡ most_report_bytes
+  pub text-length : length text ≡ most_text
 
 pub going_on : (m : List ℕ) (p : Progress) (report text : List ℕ) → Going m p report text → (r : Progress) (report2 text2 : List ℕ) →
     Prints m p text2 r → length report2 ≡ length report → length text2 ≡ length text → Going m r report2 text2
@@ -220,5 +220,5 @@ going_on m p report text g r report2 text2 x a b = record {
   text-length = b ∙ g.text-length;
 }
 
-pub going_start : (m report text : List ℕ) → length report ≡ mostReportBytes → length text ≡ mostText → Going m started report text
-going_start m report text a b = record { printed = []; so_far = nonePrinted; stands = stands-start m; report-length = a; text-length = b }
+pub going_start : (m report text : List ℕ) → length report ≡ most_report_bytes → length text ≡ most_text → Going m started report text
+going_start m report text a b = record { printed = []; so_far = none_printed; stands = stands-start m; report-length = a; text-length = b }

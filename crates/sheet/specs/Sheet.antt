@@ -3,47 +3,47 @@
 use Rattle.std.specs.Prelude.{◌≡◌, ◌≢◌, List, [], ◌++◌, ℕ, suc, ◌*◌, ◌≤◌, ◌<◌, eqb, length, take, drop}
 use Rattle.rules.specs.declared.Venue.{Venue}
 use Rattle.rules.specs.Base.{if◌then◌else◌}
-use Rattle.rules.specs.Bytes.{lengthField}
-use Rattle.rules.specs.Words.{freshVenue}
+use Rattle.rules.specs.Bytes.{length_field}
+use Rattle.rules.specs.Words.{fresh_venue}
 use Rattle.rules.specs.Records.{records}
 use Rattle.rules.specs.Calls.{run, run_from}
 use Rattle.demands.specs.Soundness.{SoundAt}
-use Rattle.demands.specs.Most.{mostReportBytes}
+use Rattle.demands.specs.Most.{most_report_bytes}
 use Rattle.text.specs.Lines.{text_of}
 use Rattle.sheet.specs.declared.Progress.{Progress}
 
-abbrev pub mostInput : ℕ
-mostInput = 65536
+abbrev pub most_input : ℕ
+most_input = 65536
 
 -- the most bytes of text of one message
-abbrev pub mostText : ℕ
-mostText = 26083
+abbrev pub most_text : ℕ
+most_text = 26083
 
 -- The sheet of a message list. The run has so much report memory that 10 does not end it: `NeverFills` of the demands.
-unfoldable pub sheetText : (messages : List ℕ) → List ℕ
-sheetText m = text_of (records (run (mostReportBytes * length m) m).report)
+unfoldable pub sheet_text : (messages : List ℕ) → List ℕ
+sheet_text m = text_of (records (run (most_report_bytes * length m) m).report)
 
 -- It is the sheet of any run that was not ended by 10, whatever its report memory.
 abbrev pub AnyMemory : Type 0
-AnyMemory = (room : ℕ) (m : List ℕ) → length m ≤ 4294967295 → (run room m).returned.number ≢ 10 → text_of (records (run room m).report) ≡ sheetText m
+AnyMemory = (room : ℕ) (m : List ℕ) → length m ≤ 4294967295 → (run room m).returned.number ≢ 10 → text_of (records (run room m).report) ≡ sheet_text m
 
 -- Message by message --------------------------------------------------------------------------
 
 -- the text of the messages of bs on v, after n messages
-unfoldable pub textFrom : Venue → (n : ℕ) → List ℕ → List ℕ
-textFrom v n bs = text_of (run_from (length bs) v n (mostReportBytes * length bs) bs).reports
+unfoldable pub text_from : Venue → (n : ℕ) → List ℕ → List ℕ
+text_from v n bs = text_of (run_from (length bs) v n (most_report_bytes * length bs) bs).reports
 
 -- the text that is still to print
 unfoldable pub left : (messages : List ℕ) → Progress → List ℕ
-left m p = textFrom p.venue p.done (drop p.at m)
+left m p = text_from p.venue p.done (drop p.at m)
 
 -- how many bytes a message takes whose call answered this number: a torn message takes all that is left
-unfoldable pub messageEnd : (number : ℕ) → List ℕ → ℕ
-messageEnd number bs = if eqb number 1 then length bs else lengthField bs
+unfoldable pub message_end : (number : ℕ) → List ℕ → ℕ
+message_end number bs = if eqb number 1 then length bs else length_field bs
 
 -- before the first message
 abbrev pub started : Progress
-started = record { number = 0; done = 0; at = 0; written = 0; venue = freshVenue }
+started = record { number = 0; done = 0; at = 0; written = 0; venue = fresh_venue }
 
 -- between two messages
 pub record Stands (m : List ℕ) (p : Progress) : Type 0 where
@@ -63,9 +63,9 @@ pub record Prints (m : List ℕ) (p : Progress) (memory : List ℕ) (r : Progres
 
 -- the text that was printed on the way to a progress
 pub data Printed (m : List ℕ) : (text : List ℕ) → Progress → Type 0 where
-  nonePrinted : Printed m [] started
+  none_printed : Printed m [] started
   more : {text : List ℕ} {p : Progress} (memory : List ℕ) (r : Progress) → Printed m text p → Prints m p memory r → Printed m (text ++ take r.written memory) r
 
 -- At the end of the list it is the sheet.
 abbrev pub Whole : Type 0
-Whole = (m : List ℕ) → length m ≤ mostInput → (text : List ℕ) (p : Progress) → Printed m text p → length m ≤ p.at → text ≡ sheetText m
+Whole = (m : List ℕ) → length m ≤ most_input → (text : List ℕ) (p : Progress) → Printed m text p → length m ≤ p.at → text ≡ sheet_text m

@@ -1,6 +1,6 @@
 // The printing program: reads messages from standard input or from each file named, 65,536 bytes at most, and prints the sheet of their run, a line per record.
 ghost use Rattle.std.specs.Prelude.{◌≡◌, ◌≤◌, length};
-ghost use Rattle.sheet.specs.Sheet.{Prints, messageEnd, mostInput, started};
+ghost use Rattle.sheet.specs.Sheet.{Prints, message_end, most_input, started};
 ghost use Rattle.sheet.specs.Inputs.{ReadInto};
 ghost use Rattle.sheet.specs.Requirements.{LineRoom};
 
@@ -33,7 +33,7 @@ fn start() -> Progress
 
 // How many bytes the message at the front of `rest` takes if its call answered `number`: a torn message (1) takes all that is left.
 fn message_end(rest: &[u8], number: u8) -> usize
-    ensures { result ≡ messageEnd number rest.now }
+    ensures { result ≡ message_end number rest.now }
 {
     if number == 1 {
         return rest.len();
@@ -77,7 +77,7 @@ fn complain(done: u32, number: u8) {
 
 // Prints the sheet of a message list, and returns whether it wrote all of it.
 fn print_list(messages: &[u8]) -> bool
-    requires { length messages.now ≤ mostInput }
+    requires { length messages.now ≤ most_input }
 {
     let mut report = [0u8; 10433];
     let mut text = [0u8; 26083];

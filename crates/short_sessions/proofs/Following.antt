@@ -9,7 +9,7 @@ use native.Mathlib.Omega.{arith}
 use borrow.Author.Tests.{lt-ltb, le-ltb, ltb-true, ltb-false}
 use lib.Dec.{ltb}
 use lib.ListN.{length, length-replicate, replicate}
-use Rattle.short_sessions.specs.Sessions.{Follow, Followed, OneAfterAnother, beginningAt, following, ofLength, raised, sessions}
+use Rattle.short_sessions.specs.Sessions.{Follow, Followed, OneAfterAnother, beginning_at, following, of_length, raised, sessions}
 
 -- What follows a session ----------------------------------------------------------------------
 
@@ -92,11 +92,11 @@ put-before k p s (t ∷ l) more x end = (stays k p s t x.0, put-before k p t l m
 
 -- those that begin at p and at each place after it
 from_place : (k n p count : ℕ) (l : List (List ℕ)) → p + suc count ≡ k → Raise k (replicate n 0) l →
-    Raise k (p ∷ replicate n 0) (map (λ (t : List ℕ). p ∷ t) l ++ beginningAt (suc p) count (replicate n 0 ∷ l))
-unfolding beginningAt
+    Raise k (p ∷ replicate n 0) (map (λ (t : List ℕ). p ∷ t) l ++ beginning_at (suc p) count (replicate n 0 ∷ l))
+unfolding beginning_at
 from_place k n p zero l e x = put-before k p (replicate n 0) l [] x (λ t _ y. at_last k p t y (omega arith))
 from_place k n p (suc count) l e x =
-    put-before k p (replicate n 0) l (beginningAt (suc p) (suc count) (replicate n 0 ∷ l)) x
+    put-before k p (replicate n 0) l (beginning_at (suc p) (suc count) (replicate n 0 ∷ l)) x
     (λ t len y. (
       goes-up k p t y (omega arith) ∙ ap (λ (j : ℕ). some (suc p ∷ replicate j 0)) (len ∙ length-replicate n 0),
       from_place k n (suc p) count l (omega arith) x,
@@ -105,17 +105,17 @@ from_place k n p (suc count) l e x =
 -- the sessions of one length follow one another
 record Raised (k n : ℕ) : Type 0 where
   rest : List (List ℕ)
-  all : ofLength k n ≡ replicate n 0 ∷ rest
+  all : of_length k n ≡ replicate n 0 ∷ rest
   raise : Raise k (replicate n 0) rest
 
 raised_all : (k n : ℕ) → Raised (suc k) n
-unfolding ofLength beginningAt
+unfolding of_length beginning_at
 raised_all k zero = record { rest = []; all = refl; raise = no-places (suc k) }
 raised_all k (suc n) =
     let x = raised_all k n in
     record {
-      rest = map (λ (t : List ℕ). 0 ∷ t) x.rest ++ beginningAt 1 k (replicate n 0 ∷ x.rest);
-      all = ap (beginningAt 0 (suc k)) x.all;
+      rest = map (λ (t : List ℕ). 0 ∷ t) x.rest ++ beginning_at 1 k (replicate n 0 ∷ x.rest);
+      all = ap (beginning_at 0 (suc k)) x.all;
       raise = from_place (suc k) n 0 k x.rest (omega arith) x.raise;
     }
 
@@ -137,7 +137,7 @@ record Onward (k n : ℕ) (l : List (List ℕ)) : Type 0 where
   all : l ≡ replicate n 0 ∷ rest
   follow : Follow k (replicate n 0) rest
 
-lengthen : (k n : ℕ) (more : List (List ℕ)) → n < 3 → Onward (suc k) (suc n) more → Onward (suc k) n (ofLength (suc k) n ++ more)
+lengthen : (k n : ℕ) (more : List (List ℕ)) → n < 3 → Onward (suc k) (suc n) more → Onward (suc k) n (of_length (suc k) n ++ more)
 lengthen k n more h o =
     let x = raised_all k n in
     record {
@@ -148,7 +148,7 @@ lengthen k n more h o =
           subst (Follow (suc k) t) (sym o.all) (follows_on _ t _ _ (longer (suc k) t y (omega arith) (omega arith) ∙ ap (λ (j : ℕ). some (replicate (suc j) 0)) e) o.follow));
     }
 
-of_three : (k : ℕ) → Onward (suc k) 3 (ofLength (suc k) 3)
+of_three : (k : ℕ) → Onward (suc k) 3 (of_length (suc k) 3)
 unfolding Follow
 of_three k =
     let x = raised_all k 3 in
@@ -161,7 +161,7 @@ of_three k =
 
 pub one-after-another : OneAfterAnother
 unfolding sessions
-one-after-another zero = record { rest = []; all = unfold ofLength beginningAt in refl; follow = unfold Follow in (of_none []) }
+one-after-another zero = record { rest = []; all = unfold of_length beginning_at in refl; follow = unfold Follow in (of_none []) }
 one-after-another (suc k) =
     let x = lengthen k 0 _ (omega arith) (lengthen k 1 _ (omega arith) (lengthen k 2 _ (omega arith) (of_three k))) in
     record { rest = x.rest; all = x.all; follow = x.follow }

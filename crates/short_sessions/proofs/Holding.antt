@@ -9,7 +9,7 @@ use native.Mathlib.Omega.{arith}
 use borrow.Author.Tests.{le-ltb, lt-ltb, ne_eqb}
 use lib.ListN.{get_or, length, set, take}
 use Rattle.short_sessions.specs.Sessions.{Within, following}
-use Rattle.short_sessions.specs.Held.{HoldsOwn, Moved, advanced, held, heldIn, isWithin, moved}
+use Rattle.short_sessions.specs.Held.{HoldsOwn, Moved, advanced, held, held_in, is_within, moved}
 
 -- Four bytes ----------------------------------------------------------------------------------
 
@@ -32,82 +32,82 @@ four (w ∷ x ∷ y ∷ z ∷ v ∷ m) h = absurd (omega arith)
 -- The session that they hold ------------------------------------------------------------------
 
 -- more than three messages, or a place that is none of the list's
-too_many : (k n a b c : ℕ) → 3 < n → heldIn k (n ∷ a ∷ b ∷ c ∷ []) ≡ none
-unfolding heldIn
-too_many k n a b c h = rw (le-ltb n 4 h, heldIn)
+too_many : (k n a b c : ℕ) → 3 < n → held_in k (n ∷ a ∷ b ∷ c ∷ []) ≡ none
+unfolding held_in
+too_many k n a b c h = rw (le-ltb n 4 h, held_in)
 
-no-first : (k n a b c : ℕ) → n ≢ 0 → k ≤ a → heldIn k (n ∷ a ∷ b ∷ c ∷ []) ≡ none
-unfolding heldIn isWithin
+no-first : (k n a b c : ℕ) → n ≢ 0 → k ≤ a → held_in k (n ∷ a ∷ b ∷ c ∷ []) ≡ none
+unfolding held_in is_within
 no-first k zero a b c s h = absurd (s refl)
-no-first k (suc zero) a b c s h = rw (le-ltb a k h, heldIn)
-no-first k (suc (suc zero)) a b c s h = rw (le-ltb a k h, heldIn)
-no-first k (suc (suc (suc zero))) a b c s h = rw (le-ltb a k h, heldIn)
+no-first k (suc zero) a b c s h = rw (le-ltb a k h, held_in)
+no-first k (suc (suc zero)) a b c s h = rw (le-ltb a k h, held_in)
+no-first k (suc (suc (suc zero))) a b c s h = rw (le-ltb a k h, held_in)
 no-first k (suc (suc (suc (suc n)))) a b c s h = too_many k (suc (suc (suc (suc n)))) a b c (omega arith)
 
-no_second : (k n a b c : ℕ) → n ≢ 0 → n ≢ 1 → a < k → k ≤ b → heldIn k (n ∷ a ∷ b ∷ c ∷ []) ≡ none
-unfolding heldIn isWithin
+no_second : (k n a b c : ℕ) → n ≢ 0 → n ≢ 1 → a < k → k ≤ b → held_in k (n ∷ a ∷ b ∷ c ∷ []) ≡ none
+unfolding held_in is_within
 no_second k zero a b c s t g h = absurd (s refl)
 no_second k (suc zero) a b c s t g h = absurd (t refl)
-no_second k (suc (suc zero)) a b c s t g h = rw (lt-ltb a k g, le-ltb b k h, heldIn)
-no_second k (suc (suc (suc zero))) a b c s t g h = rw (lt-ltb a k g, le-ltb b k h, heldIn)
+no_second k (suc (suc zero)) a b c s t g h = rw (lt-ltb a k g, le-ltb b k h, held_in)
+no_second k (suc (suc (suc zero))) a b c s t g h = rw (lt-ltb a k g, le-ltb b k h, held_in)
 no_second k (suc (suc (suc (suc n)))) a b c s t g h = too_many k (suc (suc (suc (suc n)))) a b c (omega arith)
 
-no_third : (k n a b c : ℕ) → 2 < n → a < k → b < k → k ≤ c → heldIn k (n ∷ a ∷ b ∷ c ∷ []) ≡ none
-unfolding heldIn isWithin
+no_third : (k n a b c : ℕ) → 2 < n → a < k → b < k → k ≤ c → held_in k (n ∷ a ∷ b ∷ c ∷ []) ≡ none
+unfolding held_in is_within
 no_third k zero a b c s f g h = absurd (omega arith)
 no_third k (suc zero) a b c s f g h = absurd (omega arith)
 no_third k (suc (suc zero)) a b c s f g h = absurd (omega arith)
-no_third k (suc (suc (suc zero))) a b c s f g h = rw (lt-ltb a k f, lt-ltb b k g, le-ltb c k h, heldIn)
+no_third k (suc (suc (suc zero))) a b c s f g h = rw (lt-ltb a k f, lt-ltb b k g, le-ltb c k h, held_in)
 no_third k (suc (suc (suc (suc n)))) a b c s f g h = too_many k (suc (suc (suc (suc n)))) a b c (omega arith)
 
-holds-one : (k a b c : ℕ) → a < k → heldIn k (1 ∷ a ∷ b ∷ c ∷ []) ≡ some (a ∷ [])
-unfolding heldIn isWithin
-holds-one k a b c h = rw (lt-ltb a k h, heldIn)
+holds-one : (k a b c : ℕ) → a < k → held_in k (1 ∷ a ∷ b ∷ c ∷ []) ≡ some (a ∷ [])
+unfolding held_in is_within
+holds-one k a b c h = rw (lt-ltb a k h, held_in)
 
-holds-two : (k a b c : ℕ) → a < k → b < k → heldIn k (2 ∷ a ∷ b ∷ c ∷ []) ≡ some (a ∷ b ∷ [])
-unfolding heldIn isWithin
-holds-two k a b c g h = rw (lt-ltb a k g, lt-ltb b k h, heldIn)
+holds-two : (k a b c : ℕ) → a < k → b < k → held_in k (2 ∷ a ∷ b ∷ c ∷ []) ≡ some (a ∷ b ∷ [])
+unfolding held_in is_within
+holds-two k a b c g h = rw (lt-ltb a k g, lt-ltb b k h, held_in)
 
-holds-three : (k a b c : ℕ) → a < k → b < k → c < k → heldIn k (3 ∷ a ∷ b ∷ c ∷ []) ≡ some (a ∷ b ∷ c ∷ [])
-unfolding heldIn isWithin
-holds-three k a b c f g h = rw (lt-ltb a k f, lt-ltb b k g, lt-ltb c k h, heldIn)
+holds-three : (k a b c : ℕ) → a < k → b < k → c < k → held_in k (3 ∷ a ∷ b ∷ c ∷ []) ≡ some (a ∷ b ∷ c ∷ [])
+unfolding held_in is_within
+holds-three k a b c f g h = rw (lt-ltb a k f, lt-ltb b k g, lt-ltb c k h, held_in)
 
 -- the same of a memory and its bytes
 module _ (k : ℕ) (m : List ℕ) (len : length m ≡ 4) where
-  by_bytes : (o : Option (List ℕ)) → heldIn k (get_or m 0 0 ∷ get_or m 1 0 ∷ get_or m 2 0 ∷ get_or m 3 0 ∷ []) ≡ o → o ≡ heldIn k m
-  by_bytes o e = sym (ap (heldIn k) (four m len) ∙ e)
+  by_bytes : (o : Option (List ℕ)) → held_in k (get_or m 0 0 ∷ get_or m 1 0 ∷ get_or m 2 0 ∷ get_or m 3 0 ∷ []) ≡ o → o ≡ held_in k m
+  by_bytes o e = sym (ap (held_in k) (four m len) ∙ e)
 
-  first : (n : ℕ) → get_or m 0 0 ≡ n → heldIn k (get_or m 0 0 ∷ get_or m 1 0 ∷ get_or m 2 0 ∷ get_or m 3 0 ∷ []) ≡ heldIn k (n ∷ get_or m 1 0 ∷ get_or m 2 0 ∷ get_or m 3 0 ∷ [])
-  first n e = ap (λ (x : ℕ). heldIn k (x ∷ get_or m 1 0 ∷ get_or m 2 0 ∷ get_or m 3 0 ∷ [])) e
+  first : (n : ℕ) → get_or m 0 0 ≡ n → held_in k (get_or m 0 0 ∷ get_or m 1 0 ∷ get_or m 2 0 ∷ get_or m 3 0 ∷ []) ≡ held_in k (n ∷ get_or m 1 0 ∷ get_or m 2 0 ∷ get_or m 3 0 ∷ [])
+  first n e = ap (λ (x : ℕ). held_in k (x ∷ get_or m 1 0 ∷ get_or m 2 0 ∷ get_or m 3 0 ∷ [])) e
 
-  pub is_none : get_or m 0 0 ≡ 0 → some [] ≡ heldIn k m
-  unfolding heldIn isWithin
+  pub is_none : get_or m 0 0 ≡ 0 → some [] ≡ held_in k m
+  unfolding held_in is_within
   is_none e = by_bytes _ (first 0 e)
 
-  pub is_one : get_or m 0 0 ≡ 1 → get_or m 1 0 < k → some (get_or m 1 0 ∷ []) ≡ heldIn k m
+  pub is_one : get_or m 0 0 ≡ 1 → get_or m 1 0 < k → some (get_or m 1 0 ∷ []) ≡ held_in k m
   is_one e g = by_bytes _ (first 1 e ∙ holds-one k _ _ _ g)
 
-  pub is-two : get_or m 0 0 ≡ 2 → get_or m 1 0 < k → get_or m 2 0 < k → some (get_or m 1 0 ∷ get_or m 2 0 ∷ []) ≡ heldIn k m
+  pub is-two : get_or m 0 0 ≡ 2 → get_or m 1 0 < k → get_or m 2 0 < k → some (get_or m 1 0 ∷ get_or m 2 0 ∷ []) ≡ held_in k m
   is-two e g h = by_bytes _ (first 2 e ∙ holds-two k _ _ _ g h)
 
-  pub is-three : get_or m 0 0 ≡ 3 → get_or m 1 0 < k → get_or m 2 0 < k → get_or m 3 0 < k → some (get_or m 1 0 ∷ get_or m 2 0 ∷ get_or m 3 0 ∷ []) ≡ heldIn k m
+  pub is-three : get_or m 0 0 ≡ 3 → get_or m 1 0 < k → get_or m 2 0 < k → get_or m 3 0 < k → some (get_or m 1 0 ∷ get_or m 2 0 ∷ get_or m 3 0 ∷ []) ≡ held_in k m
   is-three e f g h = by_bytes _ (first 3 e ∙ holds-three k _ _ _ f g h)
 
-  pub none_first : get_or m 0 0 ≢ 0 → k ≤ get_or m 1 0 → none ≡ heldIn k m
+  pub none_first : get_or m 0 0 ≢ 0 → k ≤ get_or m 1 0 → none ≡ held_in k m
   none_first s h = by_bytes _ (no-first k _ _ _ _ s h)
 
-  pub none-second : get_or m 0 0 ≢ 0 → get_or m 0 0 ≢ 1 → get_or m 1 0 < k → k ≤ get_or m 2 0 → none ≡ heldIn k m
+  pub none-second : get_or m 0 0 ≢ 0 → get_or m 0 0 ≢ 1 → get_or m 1 0 < k → k ≤ get_or m 2 0 → none ≡ held_in k m
   none-second s t g h = by_bytes _ (no_second k _ _ _ _ s t g h)
 
-  pub none-third : 2 < get_or m 0 0 → get_or m 1 0 < k → get_or m 2 0 < k → k ≤ get_or m 3 0 → none ≡ heldIn k m
+  pub none-third : 2 < get_or m 0 0 → get_or m 1 0 < k → get_or m 2 0 < k → k ≤ get_or m 3 0 → none ≡ held_in k m
   none-third s f g h = by_bytes _ (no_third k _ _ _ _ s f g h)
 
-  pub none_more : 3 < get_or m 0 0 → none ≡ heldIn k m
+  pub none_more : 3 < get_or m 0 0 → none ≡ held_in k m
   none_more h = by_bytes _ (too_many k _ _ _ _ h)
 
 pub holds-own : HoldsOwn
 unfolding held Within
-holds-own k [] few w = unfold heldIn isWithin in refl
+holds-own k [] few w = unfold held_in is_within in refl
 holds-own k (a ∷ []) few w = holds-one k a 0 0 w.0
 holds-own k (a ∷ b ∷ []) few w = holds-two k a b 0 w.0 w.1.0
 holds-own k (a ∷ b ∷ c ∷ []) few w = holds-three k a b c w.0 w.1.0 w.1.1.0
@@ -115,18 +115,18 @@ holds-own k (a ∷ b ∷ c ∷ d ∷ s) few w = absurd (omega arith)
 
 -- The move ------------------------------------------------------------------------------------
 
-pub holds-none : (k : ℕ) (m : List ℕ) → heldIn k m ≡ none → moved none m ≡ advanced k m
+pub holds-none : (k : ℕ) (m : List ℕ) → held_in k m ≡ none → moved none m ≡ advanced k m
 unfolding advanced
 holds-none k m e = rw (e, advanced)
 
 pub other_length : (k : ℕ) (m : List ℕ) → length m ≢ 4 → moved none m ≡ advanced k m
-other_length k m h = holds-none k m (unfold heldIn in (rw (ne_eqb (length m) 4 h, heldIn)))
+other_length k m h = holds-none k m (unfold held_in in (rw (ne_eqb (length m) 4 h, held_in)))
 
-pub none_after : (k : ℕ) (m s : List ℕ) → heldIn k m ≡ some s → following k s ≡ none → moved none m ≡ advanced k m
+pub none_after : (k : ℕ) (m s : List ℕ) → held_in k m ≡ some s → following k s ≡ none → moved none m ≡ advanced k m
 unfolding advanced
 none_after k m s e f = rw (e, f, advanced)
 
-pub moved_on : (k : ℕ) (m s t : List ℕ) → heldIn k m ≡ some s → following k s ≡ some t → moved (some t) (held t) ≡ advanced k m
+pub moved_on : (k : ℕ) (m s t : List ℕ) → held_in k m ≡ some s → following k s ≡ some t → moved (some t) (held t) ≡ advanced k m
 unfolding advanced
 moved_on k m s t e f = rw (e, f, advanced)
 
@@ -139,7 +139,7 @@ pub came : (k : ℕ) (s : List ℕ) (o : Option (List ℕ)) (m : List ℕ) → l
 unfolding moved
 came k s o m few w e = go (following k s) refl
   where
-    own : heldIn k (held s) ≡ some s
+    own : held_in k (held s) ≡ some s
     own = holds-own k s few w
 
     go : (p : Option (List ℕ)) → following k s ≡ p → Came k s o m

@@ -9,17 +9,17 @@ use native.Mathlib.Nat.{suc-mul}
 use borrow.Author.Tests.{ltb-true, ltb-false}
 use lib.Dec.{ltb}
 use lib.ListN.{length, length-replicate, replicate}
-use Rattle.short_sessions.specs.Sessions.{following, ofLength, raised}
+use Rattle.short_sessions.specs.Sessions.{following, of_length, raised}
 use Rattle.short_sessions.proofs.Listing.{beginning-number}
 use Rattle.short_sessions.proofs.Following.{at_last, goes-up, longer, longest, no-places, of_none, raised-length, same_length, stays}
 
 -- how many sessions there are of n messages
 number : (k n : ℕ) → ℕ
-number k n = length (ofLength k n)
+number k n = length (of_length k n)
 
 number-suc : (k n : ℕ) → number k (suc n) ≡ k * number k n
-unfolding number ofLength
-number-suc k n = beginning-number 0 k (ofLength k n)
+unfolding number of_length
+number-suc k n = beginning-number 0 k (of_length k n)
 
 -- how many of the same length come after one
 after : (k : ℕ) → List ℕ → ℕ
@@ -53,7 +53,7 @@ none_after k (p ∷ s) e = go (raised k s) refl (ltb (suc p) k) refl (none_after
 -- after the first come all the others
 after_first : (k n : ℕ) → suc (after (suc k) (replicate n 0)) ≡ number (suc k) n
 unfolding after
-after_first k zero = unfold number ofLength in refl
+after_first k zero = unfold number of_length in refl
 after_first k (suc n) =
     let a = after_first k n in
     let b = number-suc (suc k) n in

@@ -7,19 +7,19 @@ use Rattle.std.proofs.Math.Option.{Option, none, some}
 -- The sessions --------------------------------------------------------------------------------
 
 -- the sessions that begin at one of `count` places from p on and go on as those of l do
-unfoldable pub beginningAt : (p count : ℕ) → List (List ℕ) → List (List ℕ)
-beginningAt p zero l = []
-beginningAt p (suc count) l = map (λ (s : List ℕ). p ∷ s) l ++ beginningAt (suc p) count l
+unfoldable pub beginning_at : (p count : ℕ) → List (List ℕ) → List (List ℕ)
+beginning_at p zero l = []
+beginning_at p (suc count) l = map (λ (s : List ℕ). p ∷ s) l ++ beginning_at (suc p) count l
 
 -- the sessions of n messages, by their places
-unfoldable pub ofLength : (k n : ℕ) → List (List ℕ)
-ofLength k zero = [] ∷ []
-ofLength k (suc n) = beginningAt 0 k (ofLength k n)
+unfoldable pub of_length : (k n : ℕ) → List (List ℕ)
+of_length k zero = [] ∷ []
+of_length k (suc n) = beginning_at 0 k (of_length k n)
 
 -- "every session of 0 to 3 messages, shorter first"
 -- rule: (n)1
 unfoldable pub sessions : (k : ℕ) → List (List ℕ)
-sessions k = ofLength k 0 ++ (ofLength k 1 ++ (ofLength k 2 ++ ofLength k 3))
+sessions k = of_length k 0 ++ (of_length k 1 ++ (of_length k 2 ++ of_length k 3))
 
 -- What must hold of them -----------------------------------------------------------------------
 

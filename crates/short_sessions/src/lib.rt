@@ -2,7 +2,7 @@
 ghost use Rattle.std.specs.Prelude.{◌≡◌, [], ◌∷◌, suc, length};
 ghost use Rattle.std.proofs.Math.Option.{some};
 ghost use Rattle.short_sessions.specs.Sessions.{following};
-ghost use Rattle.short_sessions.specs.Held.{advanced, held, heldIn, moved};
+ghost use Rattle.short_sessions.specs.Held.{advanced, held, held_in, moved};
 ghost use Rattle.short_sessions.specs.Values.{found, places_of};
 
 // By value ------------------------------------------------------------------------------------
@@ -90,7 +90,7 @@ pub fn next(k: u8, s: Session) -> Found
 // The session from a list of `k` messages that four bytes hold.
 fn session_in(k: u8, memory: &[u8]) -> Found
     requires { length memory.now ≡ 4 }
-    ensures { found result ≡ heldIn k memory.now }
+    ensures { found result ≡ held_in k memory.now }
 {
     let n = memory[0];
     let a = memory[1];

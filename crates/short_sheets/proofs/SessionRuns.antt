@@ -11,36 +11,36 @@ use Rattle.rules.specs.declared.Returned.{Returned}
 use Rattle.rules.specs.declared.Venue.{Venue}
 use Rattle.rules.specs.declared.Decoded.{Decoded}
 use Rattle.rules.specs.declared.Decoded.TheVariants.{Taken, Refused}
-use Rattle.rules.specs.Bytes.{lengthField}
-use Rattle.rules.specs.Messages.{messageOf}
-use Rattle.rules.specs.Words.{freshVenue}
-use Rattle.rules.specs.Records.{ForAll, Fits, encodeAll, records}
-use Rattle.rules.specs.Refusals.{decoded, refusal, refusalOf, torn}
+use Rattle.rules.specs.Bytes.{length_field}
+use Rattle.rules.specs.Messages.{message_of}
+use Rattle.rules.specs.Words.{fresh_venue}
+use Rattle.rules.specs.Records.{ForAll, Fits, encode_all, records}
+use Rattle.rules.specs.Refusals.{decoded, refusal, refusal_of, torn}
 use Rattle.rules.specs.Step.{answered, step}
 use Rattle.rules.specs.Calls.{Call, Outcome, after, called, ends, run, run_from}
-use Rattle.rules.proofs.CallsLaws.{not-exceeds, run_none, run_room, runFrom-by}
+use Rattle.rules.proofs.CallsLaws.{not-exceeds, run_none, run_room, run_from-by}
 use Rattle.rules.proofs.Reading.{reads-back}
-use Rattle.rules.proofs.RefusalsLaws.{decoded-by, refusalOf-by, whole_in}
+use Rattle.rules.proofs.RefusalsLaws.{decoded-by, refusal_of-by, whole_in}
 use Rattle.rules.proofs.Widths.{each_append}
 use Rattle.demands.specs.Soundness.{SoundAt}
-use Rattle.demands.specs.Most.{mostReportBytes}
+use Rattle.demands.specs.Most.{most_report_bytes}
 use Rattle.demands.proofs.Calls.{fresh-sound, stays-sound, step_fits}
 use Rattle.demands.proofs.Most.{writes-at-most}
 use Rattle.engine.specs.Runs.{call_of}
 use Rattle.short_sessions.specs.Sessions.{Within}
-use Rattle.short_sheets.specs.Short.{Completes, messageAt, messagesOf, room}
+use Rattle.short_sheets.specs.Short.{Completes, message_at, messages_of, room}
 use Rattle.short_sheets.proofs.Listed.{listed, tells_first}
 
 -- a message that is not torn is not refused by 1
 abbrev of : Venue → Decoded → ℕ
-of v x = elim x [ Taken m ↦ refusalOf v m | Refused n ↦ n ]
+of v x = elim x [ Taken m ↦ refusal_of v m | Refused n ↦ n ]
 
-not-refused : (v : Venue) (n : ℕ) (bs : List ℕ) → (4 ≤ lengthField bs) × (lengthField bs ≤ length bs) → (step v n bs).refused ≢ 1
+not-refused : (v : Venue) (n : ℕ) (bs : List ℕ) → (4 ≤ length_field bs) × (length_field bs ≤ length bs) → (step v n bs).refused ≢ 1
 unfolding step answered refusal
 not-refused v n bs w =
     decoded-by (λ x. of v x ≢ 1) bs
     (λ t _. true≢false (sym t ∙ whole_in bs w)) (λ _ _ e. omega arith) (λ _ _ e. omega arith) (λ _ _ e. omega arith) (λ _ _ e. omega arith)
-    (λ _ _ _. refusalOf-by (λ x. x ≢ 1) v (messageOf bs) (λ e. omega arith) (λ e. omega arith) (λ e. omega arith) (λ e. omega arith)
+    (λ _ _ _. refusal_of-by (λ x. x ≢ 1) v (message_of bs) (λ e. omega arith) (λ e. omega arith) (λ e. omega arith) (λ e. omega arith)
     (λ e. omega arith) (λ e. omega arith) (λ e. omega arith) (λ e. omega arith)
     (λ _ _ _ _ _ _ _ _ e. omega arith))
 
@@ -52,48 +52,48 @@ pub record Ran (o : Outcome) : Type 0 where
 -- the first message of some
 module _ (p : ℕ) (rest : List ℕ) (h : p < 12) where
   abbrev bs : List ℕ
-  bs = messageAt p ++ rest
+  bs = message_at p ++ rest
 
-  field : lengthField bs ≡ length (messageAt p)
+  field : length_field bs ≡ length (message_at p)
   field = tells_first p rest (listed p h)
 
-  bs-whole : (4 ≤ lengthField bs) × (lengthField bs ≤ length bs)
+  bs-whole : (4 ≤ length_field bs) × (length_field bs ≤ length bs)
   bs-whole =
       let l = listed p h in
       let a = l.some_bytes in
       let e = field in
-      let n = length-append (messageAt p) rest in
+      let n = length-append (message_at p) rest in
       (omega arith, omega arith)
 
-  bs-rest : drop (lengthField bs) bs ≡ rest
-  bs-rest = ap (λ (n : ℕ). drop n bs) field ∙ drop-append_seam (messageAt p) rest
+  bs-rest : drop (length_field bs) bs ≡ rest
+  bs-rest = ap (λ (n : ℕ). drop n bs) field ∙ drop-append_seam (message_at p) rest
 
-ran : (s : List ℕ) (fuel : ℕ) (v : Venue) (n room : ℕ) → Within 12 s → SoundAt (suc n) v → n + length s ≤ 4294967295 → length (messagesOf s) ≤ fuel →
-    mostReportBytes * length s ≤ room → Ran (run_from fuel v n room (messagesOf s))
-unfolding messagesOf Within ends after
+ran : (s : List ℕ) (fuel : ℕ) (v : Venue) (n room : ℕ) → Within 12 s → SoundAt (suc n) v → n + length s ≤ 4294967295 → length (messages_of s) ≤ fuel →
+    most_report_bytes * length s ≤ room → Ran (run_from fuel v n room (messages_of s))
+unfolding messages_of Within ends after
 ran [] fuel v n room w is few enough roomy = subst Ran (sym (run_none fuel v n room)) (record { all_done = refl; fits = tt })
-ran (p ∷ s) zero v n room w is few enough roomy = let x = bs-whole p (messagesOf s) w.0 in absurd (omega arith)
+ran (p ∷ s) zero v n room w is few enough roomy = let x = bs-whole p (messages_of s) w.0 in absurd (omega arith)
 ran (p ∷ s) (suc fuel) v n room w is few enough roomy =
-    let rest = messagesOf s in
-    let bytes = messageAt p ++ rest in
+    let rest = messages_of s in
+    let bytes = message_at p ++ rest in
     let x = bs-whole p rest w.0 in
     let y = writes-at-most v is.venue (suc n) bytes in
     let l = (listed p w.0).some_bytes in
-    let e = length-append (messageAt p) rest in
+    let e = length-append (message_at p) rest in
     let rs = (step v (suc n) bytes).effect.reports in
     let next = (step v (suc n) bytes).effect.venue in
-    runFrom-by Ran v n room bytes fuel
+    run_from-by Ran v n room bytes fuel
     (λ z. absurd (omega arith))
     (λ _ z. absurd (true≢false (sym z ∙ not-exceeds (suc n) room rs (omega arith) (omega arith))))
     (λ _ z. absurd (not-refused v (suc n) bytes x z))
     (λ d _.
-    let r = ran s fuel next (suc n) (room - length (encodeAll rs)) w.1 (stays-sound v (suc n) (omega arith) is bytes) (omega arith) (omega arith) (omega arith) in
-    let q = subst (λ (b : List ℕ). Ran (run_from fuel next (suc n) (room - length (encodeAll rs)) b)) (sym (bs-rest p rest w.0)) r in
+    let r = ran s fuel next (suc n) (room - length (encode_all rs)) w.1 (stays-sound v (suc n) (omega arith) is bytes) (omega arith) (omega arith) (omega arith) in
+    let q = subst (λ (b : List ℕ). Ran (run_from fuel next (suc n) (room - length (encode_all rs)) b)) (sym (bs-rest p rest w.0)) r in
     record { all_done = q.all_done; fits = each_append Fits rs _ (step_fits v is.venue (suc n) d.0 bytes) q.fits })
 
 -- The session's run
-pub ran-session : (s : List ℕ) → length s ≤ 3 → Within 12 s → Ran (run_from (length (messagesOf s)) freshVenue 0 room (messagesOf s))
-ran-session s few w = ran s (length (messagesOf s)) freshVenue 0 room w fresh-sound (omega arith) (omega arith) (omega arith)
+pub ran-session : (s : List ℕ) → length s ≤ 3 → Within 12 s → Ran (run_from (length (messages_of s)) fresh_venue 0 room (messages_of s))
+ran-session s few w = ran s (length (messages_of s)) fresh_venue 0 room w fresh-sound (omega arith) (omega arith) (omega arith)
 
 pub completes : Completes
 unfolding run called

@@ -11,7 +11,7 @@ use Rattle.short_sessions.specs.Held.{advanced, held, moved}
 use Rattle.short_sessions.proofs.Following.{one-after-another}
 use Rattle.short_sessions.proofs.Listing.{no_other, number}
 use Rattle.short_sessions.proofs.Holding.{Came, came}
-use Rattle.short_sheets.specs.Short.{Counted, Printed, Stands, Whole, nonePrinted, more, mostText, room, sessionText, textsOf}
+use Rattle.short_sheets.specs.Short.{Counted, Printed, Stands, Whole, none_printed, more, most_text, room, session_text, texts_of}
 
 none-some : {t : List ℕ} → none ≡ some t → ⊥
 none-some e = let z : ◌≡◌ {A = ℕ} 0 1 = cc in omega arith
@@ -19,10 +19,10 @@ none-some e = let z : ◌≡◌ {A = ℕ} 0 1 = cc in omega arith
 pub counted : Counted
 counted = number 12
 
-texts-one : (l : List (List ℕ)) (s : List ℕ) → textsOf (l ++ (s ∷ [])) ≡ textsOf l ++ sessionText s
-unfolding textsOf
-texts-one [] s = append-nil (sessionText s)
-texts-one (t ∷ l) s = ap (λ (x : List ℕ). sessionText t ++ x) (texts-one l s) ∙ sym (append_assoc (sessionText t) (textsOf l) (sessionText s))
+texts-one : (l : List (List ℕ)) (s : List ℕ) → texts_of (l ++ (s ∷ [])) ≡ texts_of l ++ session_text s
+unfolding texts_of
+texts-one [] s = append-nil (session_text s)
+texts-one (t ∷ l) s = ap (λ (x : List ℕ). session_text t ++ x) (texts-one l s) ∙ sym (append_assoc (session_text t) (texts_of l) (session_text s))
 
 -- the sessions printed before s, and those that follow it
 record Reached (text s : List ℕ) : Type 0 where
@@ -30,10 +30,10 @@ record Reached (text s : List ℕ) : Type 0 where
   rest : List (List ℕ)
   all : sessions 12 ≡ before ++ (s ∷ rest)
   follow : Follow 12 s rest
-  printed : text ≡ textsOf before
+  printed : text ≡ texts_of before
 
 -- one session more
-next-reached : (text s memory : List ℕ) (written : ℕ) (t : List ℕ) → Reached text s → Stands (sessionText s) memory written → following 12 s ≡ some t → Reached (text ++ take written memory) t
+next-reached : (text s memory : List ℕ) (written : ℕ) (t : List ℕ) → Reached text s → Stands (session_text s) memory written → following 12 s ≡ some t → Reached (text ++ take written memory) t
 unfolding Follow
 next-reached text s memory written t x h e = go x.rest x.all x.follow
   where
@@ -50,8 +50,8 @@ next-reached text s memory written t x h e = go x.rest x.all x.follow
         }
 
 reached : (text s : List ℕ) → Printed text s → Reached text s
-unfolding textsOf
-reached text s nonePrinted =
+unfolding texts_of
+reached text s none_printed =
     let f = one-after-another 12 in
     record { before = []; rest = f.rest; all = f.all; follow = f.follow; printed = refl }
 reached text s (more {text = old} {s = r} memory written t before x e) = next-reached old r memory written s (reached old r before) x e
@@ -63,8 +63,8 @@ whole text s memory written p h e = go r.rest r.all r.follow
     r : Reached text s
     r = reached text s p
 
-    go : (l : List (List ℕ)) → sessions 12 ≡ r.before ++ (s ∷ l) → Follow 12 s l → text ++ take written memory ≡ textsOf (sessions 12)
-    go [] a f = ap₂ (λ (a b : List ℕ). a ++ b) r.printed h.is ∙ sym (texts-one r.before s) ∙ ap textsOf (sym a)
+    go : (l : List (List ℕ)) → sessions 12 ≡ r.before ++ (s ∷ l) → Follow 12 s l → text ++ take written memory ≡ texts_of (sessions 12)
+    go [] a f = ap₂ (λ (a b : List ℕ). a ++ b) r.printed h.is ∙ sym (texts-one r.before s) ∙ ap texts_of (sym a)
     go (t ∷ l) a f = absurd (none-some (sym e ∙ f.0))
 
 -- each session that is reached is one of the list's
@@ -77,12 +77,12 @@ pub record Going (s report text memory : List ℕ) : Type 0 where
   pub printed : List ℕ
   pub so_far : Printed printed s
   pub report-length : length report ≡ room
-  pub text-length : length text ≡ mostText
+  pub text-length : length text ≡ most_text
   pub memory-length : length memory ≡ 4
 
-pub going_start : (s report text : List ℕ) → s ≡ [] → length report ≡ room → length text ≡ mostText → Going s report text (0 ∷ 0 ∷ 0 ∷ 0 ∷ [])
+pub going_start : (s report text : List ℕ) → s ≡ [] → length report ≡ room → length text ≡ most_text → Going s report text (0 ∷ 0 ∷ 0 ∷ 0 ∷ [])
 unfolding held
-going_start s report text e a b = record { holds = ap held (sym e); printed = []; so_far = subst (Printed []) (sym e) nonePrinted; report-length = a; text-length = b; memory-length = refl }
+going_start s report text e a b = record { holds = ap held (sym e); printed = []; so_far = subst (Printed []) (sym e) none_printed; report-length = a; text-length = b; memory-length = refl }
 
 -- where it goes on: to the session that the memory was moved to
 pub goes_to : (s report text memory : List ℕ) → Going s report text memory → length s ≤ 3 → (o : Option (List ℕ)) (memory2 t : List ℕ) → moved o memory2 ≡ advanced 12 memory → o ≡ some t →
@@ -90,7 +90,7 @@ pub goes_to : (s report text memory : List ℕ) → Going s report text memory �
 goes_to s report text memory g few o memory2 t e k =
     subst (λ (x : Option (List ℕ)). Came 12 s x memory2) k (came 12 s o memory2 few (in_list g.printed s g.so_far) (e ∙ ap (advanced 12) g.holds))
 
-pub going_on : (s t report text memory report2 text2 memory2 : List ℕ) (written : ℕ) → Going s report text memory → Stands (sessionText s) text2 written →
+pub going_on : (s t report text memory report2 text2 memory2 : List ℕ) (written : ℕ) → Going s report text memory → Stands (session_text s) text2 written →
     Came 12 s (some t) memory2 → length report2 ≡ length report → length text2 ≡ length text → length memory2 ≡ length memory →
     Going t report2 text2 memory2
 going_on s t report text memory report2 text2 memory2 written g h e a b c = record {

@@ -4,7 +4,7 @@ use Rattle.short_sessions.specs.Sessions.{Within}
 use Rattle.short_sessions.specs.Values.{places_of}
 use Rattle.short_sessions.specs.declared.Session.{Session}
 use Rattle.short_sheets.specs.Short.{room}
-use Rattle.short_sheets.specs.Short.{mostText}
+use Rattle.short_sheets.specs.Short.{most_text}
 
 -- messages of the list, and room for their bytes
 pub record MessagesRoom (s : Session) (o : List ℕ) : Type 0 where
@@ -15,4 +15,4 @@ pub record MessagesRoom (s : Session) (o : List ℕ) : Type 0 where
 pub record SessionRoom (s : Session) (r t : List ℕ) : Type 0 where
   pub places : Within 12 (places_of s)
   pub report : length r ≡ room
-  pub text : mostText ≤ length t
+  pub text : most_text ≤ length t

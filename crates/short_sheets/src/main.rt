@@ -5,7 +5,7 @@ ghost use Rattle.records.specs.Seen.{seen, ◌plus◌};
 ghost use Rattle.text.specs.Typing.{◌types◌};
 ghost use Rattle.short_sessions.specs.Sessions.{Within};
 ghost use Rattle.short_sessions.specs.Values.{places_of};
-ghost use Rattle.short_sheets.specs.Short.{Stands, messageAt, messagesOf, placesLine, sessionText};
+ghost use Rattle.short_sheets.specs.Short.{Stands, message_at, messages_of, places_line, session_text};
 ghost use Rattle.short_sheets.specs.Requirements.{MessagesRoom, SessionRoom};
 
 use short_sessions::{Found, Session};
@@ -23,7 +23,7 @@ fn put_part(out: &mut [u8], at: usize, list: &[u8], from: usize, end: usize) -> 
 // Writes the message at a place of the list. Each line of `list` is a message.
 fn put_message(out: &mut [u8], at: usize, place: u8) -> usize
     requires { place < 12 }
-    ensures { seen out.new result ≡ seen out.old at plus messageAt place }
+    ensures { seen out.new result ≡ seen out.old at plus message_at place }
 {
     let list = b"\x06\0\x05\0\0\x01\
         \x06\0\x05\0\x01\x01\
@@ -47,7 +47,7 @@ fn put_message(out: &mut [u8], at: usize, place: u8) -> usize
 // Writes a session's messages at the start of a memory, and returns how many bytes they have.
 fn put_messages(out: &mut [u8], s: Session) -> usize
     requires { MessagesRoom s out.old }
-    ensures { Stands (messagesOf (places_of s)) out.new result }
+    ensures { Stands (messages_of (places_of s)) out.new result }
 {
     match s {
         Session::Empty => 0,
@@ -75,7 +75,7 @@ fn printed(place: u8) -> u32
 
 // The line of a session's places.
 fn put_places(out: &mut [u8], s: Session) -> usize
-    ensures { seen out.new result ≡ seen out.old 0 types placesLine (places_of s) }
+    ensures { seen out.new result ≡ seen out.old 0 types places_line (places_of s) }
 {
     match s {
         Session::Empty => records::put(out, 0, b"\n"),
@@ -97,7 +97,7 @@ fn put_places(out: &mut [u8], s: Session) -> usize
 // Runs a session from a fresh venue, and writes the report.
 fn run_session(s: Session, report: &mut [u8])
     requires { Within 12 (places_of s) }
-    ensures { report.new ≡ (run (length report.old) (messagesOf (places_of s))).report }
+    ensures { report.new ≡ (run (length report.old) (messages_of (places_of s))).report }
 {
     let mut messages = [0u8; 63];
     let n = put_messages(&mut messages, s);
@@ -107,7 +107,7 @@ fn run_session(s: Session, report: &mut [u8])
 // Writes a session's text at the start of a memory, and returns how many bytes it has.
 fn put_session(s: Session, report: &mut [u8], text: &mut [u8]) -> usize
     requires { SessionRoom s report.old text.old }
-    ensures { Stands (sessionText (places_of s)) text.new result }
+    ensures { Stands (session_text (places_of s)) text.new result }
 {
     run_session(s, report);
     let at = put_places(text, s);

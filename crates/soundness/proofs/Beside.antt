@@ -14,16 +14,16 @@ use Rattle.rules.specs.declared.Legging.{Legging}
 use Rattle.rules.specs.declared.Edition.{Edition}
 use Rattle.rules.specs.declared.Venue.{Venue}
 use Rattle.rules.specs.Base.{held, all}
-use Rattle.rules.specs.Words.{noRegular, isId, isPrice, isQuantity, oneToOne}
+use Rattle.rules.specs.Words.{no_regular, is_id, is_price, is_quantity, one_to_one}
 use Rattle.rules.specs.Settings.{increment}
-use Rattle.rules.specs.Prices.{bestOwn}
-use Rattle.rules.specs.Refusals.{onIncrement}
-use Rattle.rules.specs.Standing.{hasLeg, parentOf, verdict, stands}
-use Rattle.rules.specs.Places.{blankLegging}
-use Rattle.rules.specs.Sound.{apart, leggingSound, leggingsSound, follows}
-use Rattle.places.specs.Layout.{upto, inUse, regularIn, regularsUsed, leggingIn, editionIn, venueOf}
+use Rattle.rules.specs.Prices.{best_own}
+use Rattle.rules.specs.Refusals.{on_increment}
+use Rattle.rules.specs.Standing.{has_leg, parent_of, verdict, stands}
+use Rattle.rules.specs.Places.{blank_legging}
+use Rattle.rules.specs.Sound.{apart, legging_sound, leggings_sound, follows}
+use Rattle.places.specs.Layout.{upto, in_use, regular_in, regulars_used, legging_in, edition_in, venue_of}
 use Rattle.levels.proofs.Scans.{upto-on, upto-end}
-use Rattle.soundness.specs.Checked.{pricedOn, onIncrements, eight, leggingInRange, hasHome}
+use Rattle.soundness.specs.Checked.{priced_on, on_increments, eight, legging_in_range, has_home}
 use Rattle.venue_reader.proofs.Passes.{all_past, all-stop, all_none, and_assoc}
 use Rattle.rules.proofs.Ranges.{inside, within-top}
 
@@ -46,35 +46,35 @@ all-free f none h [] zero = refl
 all-free f none h [] (suc k) = rw h (all-free f none h [] k)
 all-free f none h (x ∷ l) k = ap (λ (t : Bool). f x && t) (all-free f none h l k)
 
-regulars-are : (b : List ℕ) → (venueOf b).regular ≡ upto (regularIn b) 0 (regularsUsed b) ++ replicate (128 - regularsUsed b) noRegular
-unfolding venueOf inUse
+regulars-are : (b : List ℕ) → (venue_of b).regular ≡ upto (regular_in b) 0 (regulars_used b) ++ replicate (128 - regulars_used b) no_regular
+unfolding venue_of in_use
 regulars-are b = refl
 
 -- a pass over the regular places in use is one over all
-regulars-scan : (b : List ℕ) (f : Regular → Bool) → f noRegular ≡ true → all f (upto (regularIn b) 0 (regularsUsed b)) ≡ all f (venueOf b).regular
-regulars-scan b f h = sym (all-free f noRegular h (upto (regularIn b) 0 (regularsUsed b)) (128 - regularsUsed b)) ∙ ap (all f) (sym (regulars-are b))
+regulars-scan : (b : List ℕ) (f : Regular → Bool) → f no_regular ≡ true → all f (upto (regular_in b) 0 (regulars_used b)) ≡ all f (venue_of b).regular
+regulars-scan b f h = sym (all-free f no_regular h (upto (regular_in b) 0 (regulars_used b)) (128 - regulars_used b)) ∙ ap (all f) (sym (regulars-are b))
 
 -- Prices --------------------------------------------------------------------------------------
 
-pub series-in : (b : List ℕ) (i : ℕ) → (regularIn b i).series < 8
-unfolding regularIn
+pub series-in : (b : List ℕ) (i : ℕ) → (regular_in b i).series < 8
+unfolding regular_in
 series-in b i = omega arith
 
-pub priced-free : (v : Venue) (o : Regular) → o.quantity ≡ 0 → true ≡ pricedOn v o
-unfolding pricedOn
+pub priced-free : (v : Venue) (o : Regular) → o.quantity ≡ 0 → true ≡ priced_on v o
+unfolding priced_on
 priced-free v o h = rw (eq-eqb o.quantity 0 h)
 
-pub priced-held : (v : Venue) (o : Regular) (x : ℕ) → (o.quantity ≡ 0 → ⊥) → x ≡ increment v o.series → eqb (o.price % x) 0 ≡ pricedOn v o
-unfolding pricedOn onIncrement
+pub priced-held : (v : Venue) (o : Regular) (x : ℕ) → (o.quantity ≡ 0 → ⊥) → x ≡ increment v o.series → eqb (o.price % x) 0 ≡ priced_on v o
+unfolding priced_on on_increment
 priced-held v o x h e = rw (ne_eqb o.quantity 0 h, e)
 
-pub prices-scan : (b : List ℕ) → all (pricedOn (venueOf b)) (upto (regularIn b) 0 (regularsUsed b)) ≡ onIncrements (venueOf b)
-unfolding onIncrements
-prices-scan b = regulars-scan b (pricedOn (venueOf b)) (sym (priced-free (venueOf b) noRegular refl))
+pub prices-scan : (b : List ℕ) → all (priced_on (venue_of b)) (upto (regular_in b) 0 (regulars_used b)) ≡ on_increments (venue_of b)
+unfolding on_increments
+prices-scan b = regulars-scan b (priced_on (venue_of b)) (sym (priced-free (venue_of b) no_regular refl))
 
 -- Series --------------------------------------------------------------------------------------
 
-module _ (v : Venue) (s x y : ℕ) (e : x ≡ bestOwn v s 0) (q : y ≡ bestOwn v s 1) where
+module _ (v : Venue) (s x y : ℕ) (e : x ≡ best_own v s 0) (q : y ≡ best_own v s 1) where
   apart_of : (not (held x) || not (held y) || ltb x y) ≡ apart v s
   unfolding apart
   apart_of = ap₂ (λ (a b : ℕ). not (held a) || not (held b) || ltb a b) e q
@@ -95,8 +95,8 @@ series-scan f = refl
 
 -- Editions and generations --------------------------------------------------------------------
 
-pub editions-scan : (b : List ℕ) (f : Edition → Bool) → all f (upto (editionIn b) 0 (32 - 0)) ≡ all f (venueOf b).editions
-unfolding venueOf
+pub editions-scan : (b : List ℕ) (f : Edition → Bool) → all f (upto (edition_in b) 0 (32 - 0)) ≡ all f (venue_of b).editions
+unfolding venue_of
 editions-scan b f = refl
 
 module _ (number : ℕ) (v : Venue) where
@@ -110,65 +110,65 @@ module _ (number : ℕ) (v : Venue) where
 
 -- Legging orders ------------------------------------------------------------------------------
 
-pub legging-zero : (l : Legging) → l.parent ≡ 0 → l.price ≡ 0 → eqb l.quantity 0 ≡ blankLegging l
-unfolding blankLegging
+pub legging-zero : (l : Legging) → l.parent ≡ 0 → l.price ≡ 0 → eqb l.quantity 0 ≡ blank_legging l
+unfolding blank_legging
 legging-zero l a b = rw (eq-eqb l.parent 0 a, eq-eqb l.price 0 b)
 
 pub legging-quantity : (l : Legging) → 0 < l.parent → l.parent ≤ 4294967295 → 0 < l.price → l.price ≤ 100000 → 0 < l.quantity →
-    leb l.quantity 10000 ≡ leggingInRange l
-unfolding leggingInRange isId isPrice isQuantity
+    leb l.quantity 10000 ≡ legging_in_range l
+unfolding legging_in_range is_id is_price is_quantity
 legging-quantity l a b c d e = rw (inside 1 4294967295 l.parent a b, inside 1 100000 l.price c d) (within-top 1 10000 l.quantity e)
 
-module _ (v : Venue) (l : Legging) (s d : ℕ) (c : Complex) (e : c ≡ parentOf v l) where
-  home-is : (hasLeg c s d && oneToOne c && leb l.quantity c.quantity) ≡ hasHome v l s d
-  unfolding hasHome
-  home-is = ap (λ (x : Complex). hasLeg x s d && oneToOne x && leb l.quantity x.quantity) e
+module _ (v : Venue) (l : Legging) (s d : ℕ) (c : Complex) (e : c ≡ parent_of v l) where
+  home-is : (has_leg c s d && one_to_one c && leb l.quantity c.quantity) ≡ has_home v l s d
+  unfolding has_home
+  home-is = ap (λ (x : Complex). has_leg x s d && one_to_one x && leb l.quantity x.quantity) e
 
-  pub home-none : hasLeg c s d ≡ false → false ≡ hasHome v l s d
+  pub home-none : has_leg c s d ≡ false → false ≡ has_home v l s d
   home-none h = rw h at home-is
 
-  module _ (h : hasLeg c s d ≡ true) where
-    pub home-uneven : oneToOne c ≡ false → false ≡ hasHome v l s d
+  module _ (h : has_leg c s d ≡ true) where
+    pub home-uneven : one_to_one c ≡ false → false ≡ has_home v l s d
     home-uneven u = rw (h, u) at home-is
 
-    pub home-open : oneToOne c ≡ true → leb l.quantity c.quantity ≡ hasHome v l s d
+    pub home-open : one_to_one c ≡ true → leb l.quantity c.quantity ≡ has_home v l s d
     home-open u = rw (h, u) at home-is
 
-pub sound-free : (v : Venue) (n : ℕ) (l : Legging) → l.quantity ≡ 0 → blankLegging l ≡ leggingSound v n l
-unfolding leggingSound
+pub sound-free : (v : Venue) (n : ℕ) (l : Legging) → l.quantity ≡ 0 → blank_legging l ≡ legging_sound v n l
+unfolding legging_sound
 sound-free v n l h = rw (eq-eqb l.quantity 0 h)
 
 module _ (v : Venue) (n : ℕ) (l : Legging) (h : l.quantity ≡ 0 → ⊥) where
-  pub sound-held : (leggingInRange l && hasHome v l (n / 2) (n % 2) && stands (verdict v n l)) ≡ leggingSound v n l
-  unfolding leggingSound leggingInRange hasHome
+  pub sound-held : (legging_in_range l && has_home v l (n / 2) (n % 2) && stands (verdict v n l)) ≡ legging_sound v n l
+  unfolding legging_sound legging_in_range has_home
   sound-held =
       rw (ne_eqb l.quantity 0 h)
       (ap (λ (t : Bool). t && stands (verdict v n l))
-      (sym (and_assoc (isId l.parent && isPrice l.price && isQuantity l.quantity) (hasLeg (parentOf v l) (n / 2) (n % 2))
-      (oneToOne (parentOf v l)) (leb l.quantity (parentOf v l).quantity))))
+      (sym (and_assoc (is_id l.parent && is_price l.price && is_quantity l.quantity) (has_leg (parent_of v l) (n / 2) (n % 2))
+      (one_to_one (parent_of v l)) (leb l.quantity (parent_of v l).quantity))))
 
-leggings-on : (b : List ℕ) (v : Venue) (n : ℕ) → n < 16 → leggingsSound v n (upto (leggingIn b) n (16 - n)) ≡
-    (leggingSound v n (leggingIn b n) && leggingsSound v (n + 1) (upto (leggingIn b) (n + 1) (16 - (n + 1))))
-unfolding leggingsSound
+leggings-on : (b : List ℕ) (v : Venue) (n : ℕ) → n < 16 → leggings_sound v n (upto (legging_in b) n (16 - n)) ≡
+    (legging_sound v n (legging_in b n) && leggings_sound v (n + 1) (upto (legging_in b) (n + 1) (16 - (n + 1))))
+unfolding leggings_sound
 leggings-on b v n lt =
-    ap (leggingsSound v n) (upto-on (leggingIn b) n 16 lt)
-    ∙ ap (λ (k : ℕ). leggingSound v n (leggingIn b n) && leggingsSound v k (upto (leggingIn b) (n + 1) (16 - (n + 1)))) (sym (add-one n))
+    ap (leggings_sound v n) (upto-on (legging_in b) n 16 lt)
+    ∙ ap (λ (k : ℕ). legging_sound v n (legging_in b n) && leggings_sound v k (upto (legging_in b) (n + 1) (16 - (n + 1)))) (sym (add-one n))
 
 module _ (b : List ℕ) (v : Venue) (n : ℕ) where
-  pub leggings-past : n < 16 → leggingSound v n (leggingIn b n) ≡ true →
-      leggingsSound v (n + 1) (upto (leggingIn b) (n + 1) (16 - (n + 1))) ≡ leggingsSound v n (upto (leggingIn b) n (16 - n))
+  pub leggings-past : n < 16 → legging_sound v n (legging_in b n) ≡ true →
+      leggings_sound v (n + 1) (upto (legging_in b) (n + 1) (16 - (n + 1))) ≡ leggings_sound v n (upto (legging_in b) n (16 - n))
   leggings-past lt h = sym (leggings-on b v n lt ∙ rw h)
 
-  pub leggings-stop : n < 16 → leggingSound v n (leggingIn b n) ≡ false → false ≡ leggingsSound v n (upto (leggingIn b) n (16 - n))
+  pub leggings-stop : n < 16 → legging_sound v n (legging_in b n) ≡ false → false ≡ leggings_sound v n (upto (legging_in b) n (16 - n))
   leggings-stop lt h = sym (leggings-on b v n lt ∙ rw h)
 
-  pub leggings-none : 16 ≤ n → true ≡ leggingsSound v n (upto (leggingIn b) n (16 - n))
-  unfolding leggingsSound
-  leggings-none le = sym (ap (leggingsSound v n) (upto-end (leggingIn b) n 16 le))
+  pub leggings-none : 16 ≤ n → true ≡ leggings_sound v n (upto (legging_in b) n (16 - n))
+  unfolding leggings_sound
+  leggings-none le = sym (ap (leggings_sound v n) (upto-end (legging_in b) n 16 le))
 
-leggings-are : (b : List ℕ) → upto (leggingIn b) 0 (16 - 0) ≡ (venueOf b).legging
-unfolding venueOf
+leggings-are : (b : List ℕ) → upto (legging_in b) 0 (16 - 0) ≡ (venue_of b).legging
+unfolding venue_of
 leggings-are b = refl
 
-pub leggings-scan : (b : List ℕ) → leggingsSound (venueOf b) 0 (upto (leggingIn b) 0 (16 - 0)) ≡ leggingsSound (venueOf b) 0 (venueOf b).legging
-leggings-scan b = ap (leggingsSound (venueOf b) 0) (leggings-are b)
+pub leggings-scan : (b : List ℕ) → leggings_sound (venue_of b) 0 (upto (legging_in b) 0 (16 - 0)) ≡ leggings_sound (venue_of b) 0 (venue_of b).legging
+leggings-scan b = ap (leggings_sound (venue_of b) 0) (leggings-are b)

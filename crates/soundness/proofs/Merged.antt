@@ -9,14 +9,14 @@ use Rattle.rules.specs.declared.Regular.{Regular}
 use Rattle.rules.specs.declared.Complex.{Complex}
 use Rattle.rules.specs.declared.Venue.{Venue}
 use Rattle.rules.specs.Base.{held}
-use Rattle.rules.specs.Words.{noRegular, noComplex, regularAt, complexAt}
-use Rattle.rules.specs.Places.{holdsComplex, blankComplex}
-use Rattle.rules.specs.Complex.{restsComplex}
-use Rattle.rules.specs.Sound.{complexesSound, idsDistinct}
-use Rattle.rules.proofs.Arranging.{all-at, all_in, arranged-out, blank-freeC}
+use Rattle.rules.specs.Words.{no_regular, no_complex, regular_at, complex_at}
+use Rattle.rules.specs.Places.{holds_complex, blank_complex}
+use Rattle.rules.specs.Complex.{rests_complex}
+use Rattle.rules.specs.Sound.{complexes_sound, ids_distinct}
+use Rattle.rules.proofs.Arranging.{all-at, all_in, arranged-out, blank-free_c}
 use Rattle.rules.proofs.Filling.{reg, cx}
 use Rattle.rules.proofs.Finding.{rests-in, rests-out}
-use Rattle.places.specs.Layout.{regularIn, complexIn, regularsUsed, complexesUsed, venueOf, Dense}
+use Rattle.places.specs.Layout.{regular_in, complex_in, regulars_used, complexes_used, venue_of, Dense}
 use Rattle.places.proofs.Parts.{regular-at, complex-at, regular-past, complex-past}
 
 -- Two rows of ids -----------------------------------------------------------------------------
@@ -53,59 +53,59 @@ module _ (v : Venue) where
   pub passed_first : Passed 0 0
   passed_first = record { regulars = λ k l h a b e. omega arith; complexes = λ k l h a b e. omega arith }
 
-  none-shared : ((k l : ℕ) → held (reg v k).quantity ≡ true → held (cx v l).quantity ≡ true → (reg v k).id ≡ (cx v l).id → ⊥) → true ≡ idsDistinct v
-  unfolding idsDistinct
-  none-shared h = sym (all_in _ noRegular v.regular (λ i. go i (held (reg v i).quantity) refl (restsComplex v (reg v i).id) refl))
+  none-shared : ((k l : ℕ) → held (reg v k).quantity ≡ true → held (cx v l).quantity ≡ true → (reg v k).id ≡ (cx v l).id → ⊥) → true ≡ ids_distinct v
+  unfolding ids_distinct
+  none-shared h = sym (all_in _ no_regular v.regular (λ i. go i (held (reg v i).quantity) refl (rests_complex v (reg v i).id) refl))
     where
-      go : (i : ℕ) (b : Bool) → held (reg v i).quantity ≡ b → (c : Bool) → restsComplex v (reg v i).id ≡ c → (not b || not c) ≡ true
+      go : (i : ℕ) (b : Bool) → held (reg v i).quantity ≡ b → (c : Bool) → rests_complex v (reg v i).id ≡ c → (not b || not c) ≡ true
       go i true a true r = let x = rests-out v (reg v i).id r in absurd (h i x.at a x.holds (sym x.is))
       go i true a false r = refl
       go i false a c r = refl
 
-  one-shared : (i j : ℕ) → held (reg v i).quantity ≡ true → held (cx v j).quantity ≡ true → (reg v i).id ≡ (cx v j).id → false ≡ idsDistinct v
-  unfolding idsDistinct
-  one-shared i j a b e = go (idsDistinct v) refl
+  one-shared : (i j : ℕ) → held (reg v i).quantity ≡ true → held (cx v j).quantity ≡ true → (reg v i).id ≡ (cx v j).id → false ≡ ids_distinct v
+  unfolding ids_distinct
+  one-shared i j a b e = go (ids_distinct v) refl
     where
-      go : (t : Bool) → idsDistinct v ≡ t → false ≡ t
+      go : (t : Bool) → ids_distinct v ≡ t → false ≡ t
       go true t = absurd (false≢true
-          (rw (a, e, rests-in v j b) at (all-at (λ o. not (held o.quantity) || not (restsComplex v o.id)) noRegular v.regular refl t i)))
+          (rw (a, e, rests-in v j b) at (all-at (λ o. not (held o.quantity) || not (rests_complex v o.id)) no_regular v.regular refl t i)))
       go false t = refl
 
 module _ (b : List ℕ) where
   abbrev v : Venue
-  v = venueOf b
+  v = venue_of b
 
-  reg-is : (i : ℕ) → i < regularsUsed b → reg v i ≡ regularIn b i
-  unfolding regularAt
+  reg-is : (i : ℕ) → i < regulars_used b → reg v i ≡ regular_in b i
+  unfolding regular_at
   reg-is = regular-at b
 
-  cx-is : (j : ℕ) → j < complexesUsed b → cx v j ≡ complexIn b j
-  unfolding complexAt
+  cx-is : (j : ℕ) → j < complexes_used b → cx v j ≡ complex_in b j
+  unfolding complex_at
   cx-is = complex-at b
 
   -- an order that rests is in use
-  reg-used : (k : ℕ) → held (reg v k).quantity ≡ true → k < regularsUsed b
-  unfolding regularAt
-  reg-used k h = elim (dec_lt k (regularsUsed b)) [
+  reg-used : (k : ℕ) → held (reg v k).quantity ≡ true → k < regulars_used b
+  unfolding regular_at
+  reg-used k h = elim (dec_lt k (regulars_used b)) [
     | yes p ↦ p
     | no p ↦ absurd (false≢true (rw (regular-past b k (omega arith)) at h))
   ]
 
-  cx-used : (k : ℕ) → held (cx v k).quantity ≡ true → k < complexesUsed b
-  unfolding complexAt
-  cx-used k h = elim (dec_lt k (complexesUsed b)) [
+  cx-used : (k : ℕ) → held (cx v k).quantity ≡ true → k < complexes_used b
+  unfolding complex_at
+  cx-used k h = elim (dec_lt k (complexes_used b)) [
     | yes p ↦ p
     | no p ↦ absurd (false≢true (rw (complex-past b k (omega arith)) at h))
   ]
 
   module _ (i j : ℕ) (p : Passed v i j) where
-    pub regulars-passed : regularsUsed b ≤ i → true ≡ idsDistinct v
+    pub regulars-passed : regulars_used b ≤ i → true ≡ ids_distinct v
     regulars-passed h = none-shared v (λ k l a c e. let w = reg-used k a in p.regulars k l (omega arith) a c e)
 
-    pub complexes-passed : complexesUsed b ≤ j → true ≡ idsDistinct v
+    pub complexes-passed : complexes_used b ≤ j → true ≡ ids_distinct v
     complexes-passed h = none-shared v (λ k l a c e. let w = cx-used l c in p.complexes l k (omega arith) c a (sym e))
 
-    module _ (dense : Dense b) (fine : complexesSound v ≡ true) (r : i < regularsUsed b) (s : j < complexesUsed b) (x y : ℕ) (e : x ≡ (regularIn b i).id) (f : y ≡ (complexIn b j).id) where
+    module _ (dense : Dense b) (fine : complexes_sound v ≡ true) (r : i < regulars_used b) (s : j < complexes_used b) (x y : ℕ) (e : x ≡ (regular_in b i).id) (f : y ≡ (complex_in b j).id) where
       a : held (reg v i).quantity ≡ true
       a = ap (λ (o : Regular). held o.quantity) (reg-is i r) ∙ dense.regulars i r
 
@@ -118,14 +118,14 @@ module _ (b : List ℕ) where
       g : y ≡ (cx v j).id
       g = f ∙ ap (λ (o : Complex). o.id) (sym (cx-is j s))
 
-      pub ids-met : x ≡ y → false ≡ idsDistinct v
+      pub ids-met : x ≡ y → false ≡ ids_distinct v
       ids-met q = one-shared v i j a c (sym d ∙ q ∙ g)
 
       pub regular-passed : x < y → Passed v (i + 1) j
-      unfolding complexesSound
+      unfolding complexes_sound
       regular-passed q = record {
         regulars = clear_next (λ k. (reg v k).id) (λ k. (cx v k).id) (λ k. held (reg v k).quantity) (λ k. held (cx v k).quantity) i j p.regulars p.complexes
-            (arranged-out noComplex holdsComplex _ blankComplex (λ o. o.id) blank-freeC (unfold blankComplex in refl) 0 v.complex fine).rises c (let u = d in let w = g in omega arith);
+            (arranged-out no_complex holds_complex _ blank_complex (λ o. o.id) blank-free_c (unfold blank_complex in refl) 0 v.complex fine).rises c (let u = d in let w = g in omega arith);
         complexes = p.complexes;
       }
 

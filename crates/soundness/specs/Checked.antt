@@ -4,34 +4,34 @@ use Rattle.rules.specs.declared.Regular.{Regular}
 use Rattle.rules.specs.declared.Legging.{Legging}
 use Rattle.rules.specs.declared.Venue.{Venue}
 use Rattle.rules.specs.Base.{held, all}
-use Rattle.rules.specs.Words.{isId, isPrice, isQuantity, oneToOne}
-use Rattle.rules.specs.Standing.{hasLeg, parentOf}
-use Rattle.rules.specs.Refusals.{onIncrement}
-use Rattle.rules.specs.Sound.{apart, leggingsSound, idsDistinct, follows, sound}
+use Rattle.rules.specs.Words.{is_id, is_price, is_quantity, one_to_one}
+use Rattle.rules.specs.Standing.{has_leg, parent_of}
+use Rattle.rules.specs.Refusals.{on_increment}
+use Rattle.rules.specs.Sound.{apart, leggings_sound, ids_distinct, follows, sound}
 use Rattle.places.specs.Layout.{Loaded}
 
 -- a regular order, where it rests, has a price on the increment in force
-unfoldable pub pricedOn : Venue → Regular → Bool
-pricedOn v o = not (held o.quantity) || onIncrement v o
+unfoldable pub priced_on : Venue → Regular → Bool
+priced_on v o = not (held o.quantity) || on_increment v o
 
-unfoldable pub onIncrements : Venue → Bool
-onIncrements v = all (pricedOn v) v.regular
+unfoldable pub on_increments : Venue → Bool
+on_increments v = all (priced_on v) v.regular
 
 -- the eight series
 abbrev pub eight : List ℕ
 eight = 0 ∷ 1 ∷ 2 ∷ 3 ∷ 4 ∷ 5 ∷ 6 ∷ 7 ∷ []
 
 -- the fields of a legging order
-unfoldable pub leggingInRange : Legging → Bool
-leggingInRange l = isId l.parent && isPrice l.price && isQuantity l.quantity
+unfoldable pub legging_in_range : Legging → Bool
+legging_in_range l = is_id l.parent && is_price l.price && is_quantity l.quantity
 
 -- its parent rests, has this leg, is one to one, and has at least its quantity open
-unfoldable pub hasHome : Venue → Legging → (series side : ℕ) → Bool
-hasHome v l s d = hasLeg (parentOf v l) s d && oneToOne (parentOf v l) && leb l.quantity (parentOf v l).quantity
+unfoldable pub has_home : Venue → Legging → (series side : ℕ) → Bool
+has_home v l s d = has_leg (parent_of v l) s d && one_to_one (parent_of v l) && leb l.quantity (parent_of v l).quantity
 
 -- the conditions on the last id, on prices by the increments, and on orders with one another
-unfoldable pub ordersSound : Venue → Bool
-ordersSound v = leb v.last 4294967295 && onIncrements v && idsDistinct v && all (apart v) eight && leggingsSound v 0 v.legging
+unfoldable pub orders_sound : Venue → Bool
+orders_sound v = leb v.last 4294967295 && on_increments v && ids_distinct v && all (apart v) eight && leggings_sound v 0 v.legging
 
 -- r says whether v is sound; where it is, b stands for it
 pub record Checked (v : Venue) (r : Bool) (b : List ℕ) : Type 0 where

@@ -1,13 +1,13 @@
 // Checks whether the venue that bytes hold is sound, and loads its numbers on the way.
 ghost use Rattle.std.specs.Prelude.{◌≡◌, ◌&&◌, ltb, eqb, length};
 ghost use Rattle.rules.specs.Base.{all};
-ghost use Rattle.rules.specs.Places.{blankLegging};
-ghost use Rattle.rules.specs.Generation.{generationsOf};
-ghost use Rattle.rules.specs.Standing.{hasLeg};
-ghost use Rattle.rules.specs.Sound.{apart, leggingSound, leggingsSound, idsDistinct, follows};
-ghost use Rattle.places.specs.Layout.{size, leggingIn, venueOf};
-ghost use Rattle.venue_bytes.specs.Held.{venueFrom};
-ghost use Rattle.soundness.specs.Checked.{pricedOn, onIncrements, eight, leggingInRange, hasHome, ordersSound, Checked, Ready};
+ghost use Rattle.rules.specs.Places.{blank_legging};
+ghost use Rattle.rules.specs.Generation.{generations_of};
+ghost use Rattle.rules.specs.Standing.{has_leg};
+ghost use Rattle.rules.specs.Sound.{apart, legging_sound, leggings_sound, ids_distinct, follows};
+ghost use Rattle.places.specs.Layout.{size, legging_in, venue_of};
+ghost use Rattle.venue_bytes.specs.Held.{venue_from};
+ghost use Rattle.soundness.specs.Checked.{priced_on, on_increments, eight, legging_in_range, has_home, orders_sound, Checked, Ready};
 ghost use Rattle.levels.specs.Requirements.{GridReady, GridPlaceReady};
 ghost use Rattle.places.specs.Requirements.{RightNumbers, FiguredNumbers, SeriesReady, IncrementReady, RightSeries};
 ghost use Rattle.venue_bytes.specs.Requirements.{HeldReady};
@@ -21,7 +21,7 @@ use rules::{Complex, Legging, Regular, Verdict};
 // A regular order, where it rests, has a price on the increment in force.
 fn on_increment(numbers: &[u32], o: Regular) -> bool
     requires { IncrementReady numbers.now o.series }
-    ensures { result ≡ pricedOn (venueOf numbers.now) o }
+    ensures { result ≡ priced_on (venue_of numbers.now) o }
 {
     if o.quantity == 0 {
         return true;
@@ -33,7 +33,7 @@ fn on_increment(numbers: &[u32], o: Regular) -> bool
 // Every resting regular order's price is a multiple of its series' increment in force.
 fn on_increments(numbers: &[u32]) -> bool
     requires { FiguredNumbers numbers.now }
-    ensures { result ≡ onIncrements (venueOf numbers.now) }
+    ensures { result ≡ on_increments (venue_of numbers.now) }
 {
     let n = places::regulars_used(numbers);
     let mut i: usize = 0;
@@ -50,7 +50,7 @@ fn on_increments(numbers: &[u32]) -> bool
 // No id rests in both books. Ids rise in each book, so one pass over both finds two equal ids.
 fn ids_distinct(numbers: &[u32]) -> bool
     requires { ArrangedNumbers numbers.now }
-    ensures { result ≡ idsDistinct (venueOf numbers.now) }
+    ensures { result ≡ ids_distinct (venue_of numbers.now) }
 {
     let n = places::regulars_used(numbers);
     let m = places::complexes_used(numbers);
@@ -77,7 +77,7 @@ fn ids_distinct(numbers: &[u32]) -> bool
 // A series is neither locked nor crossed, counting own prices.
 fn is_apart(numbers: &[u32], s: u8) -> bool
     requires { RightSeries numbers.now s }
-    ensures { result ≡ apart (venueOf numbers.now) s }
+    ensures { result ≡ apart (venue_of numbers.now) s }
 {
     let bid = prices::best_own(numbers, levels::best_regular(numbers, s, 0), s, 0);
     if bid == 0 {
@@ -93,7 +93,7 @@ fn is_apart(numbers: &[u32], s: u8) -> bool
 // No series is locked or crossed, counting own prices.
 fn all_apart(numbers: &[u32]) -> bool
     requires { RightNumbers numbers.now }
-    ensures { result ≡ all (apart (venueOf numbers.now)) eight }
+    ensures { result ≡ all (apart (venue_of numbers.now)) eight }
 {
     let mut s: u8 = 0;
     while s < 8 {
@@ -107,7 +107,7 @@ fn all_apart(numbers: &[u32]) -> bool
 
 // A legging place that is all zero.
 fn blank_legging(l: Legging) -> bool
-    ensures { result ≡ blankLegging l }
+    ensures { result ≡ blank_legging l }
 {
     if l.parent != 0 {
         return false;
@@ -120,7 +120,7 @@ fn blank_legging(l: Legging) -> bool
 
 // A held legging place's fields are in range.
 fn legging_in_range(l: Legging) -> bool
-    ensures { result ≡ leggingInRange l }
+    ensures { result ≡ legging_in_range l }
 {
     if l.parent == 0 {
         return false;
@@ -149,7 +149,7 @@ fn is_leg(series: u8, side: u8, s: u8, d: u8) -> bool
 
 // Side d of series s is a leg of c.
 fn has_leg(c: Complex, s: u8, d: u8) -> bool
-    ensures { result ≡ hasLeg c s d }
+    ensures { result ≡ has_leg c s d }
 {
     if is_leg(c.series1, c.side1, s, d) {
         return true;
@@ -160,7 +160,7 @@ fn has_leg(c: Complex, s: u8, d: u8) -> bool
 // A legging order's parent rests, has this leg, is one to one, and has at least the legging order's quantity open.
 fn has_home(numbers: &[u32], l: Legging, s: u8, d: u8) -> bool
     requires { length numbers.now ≡ size }
-    ensures { result ≡ hasHome (venueOf numbers.now) l s d }
+    ensures { result ≡ has_home (venue_of numbers.now) l s d }
 {
     let c = prices::parent_of(numbers, l);
     if !has_leg(c, s, d) {
@@ -175,7 +175,7 @@ fn has_home(numbers: &[u32], l: Legging, s: u8, d: u8) -> bool
 // What stands at a legging place is sound.
 fn legging_sound(numbers: &[u32], g: [[Level; 2]; 8], n: usize) -> bool
     requires { GridPlaceReady numbers.now g n }
-    ensures { result ≡ leggingSound (venueOf numbers.now) n (leggingIn numbers.now n) }
+    ensures { result ≡ legging_sound (venue_of numbers.now) n (legging_in numbers.now n) }
 {
     let l = places::legging_at(numbers, n);
     if l.quantity == 0 {
@@ -196,7 +196,7 @@ fn legging_sound(numbers: &[u32], g: [[Level; 2]; 8], n: usize) -> bool
 // Every legging place is sound.
 fn leggings_sound(numbers: &[u32], g: [[Level; 2]; 8]) -> bool
     requires { GridReady numbers.now g }
-    ensures { result ≡ leggingsSound (venueOf numbers.now) 0 (venueOf numbers.now).legging }
+    ensures { result ≡ leggings_sound (venue_of numbers.now) 0 (venue_of numbers.now).legging }
 {
     let mut n: usize = 0;
     while n < 16 {
@@ -211,7 +211,7 @@ fn leggings_sound(numbers: &[u32], g: [[Level; 2]; 8]) -> bool
 // Prices are on the increments, ids are distinct, no series is locked or crossed, and each legging order is sound.
 fn orders_sound(numbers: &[u32]) -> bool
     requires { ArrangedNumbers numbers.now }
-    ensures { result ≡ ordersSound (venueOf numbers.now) }
+    ensures { result ≡ orders_sound (venue_of numbers.now) }
 {
     if !on_increments(numbers) {
         return false;
@@ -229,7 +229,7 @@ fn orders_sound(numbers: &[u32]) -> bool
 // Whether the venue that the bytes hold is sound. Where it is, the numbers stand for it afterwards.
 pub fn load_bytes(numbers: &mut [u32], venue: &[u8]) -> bool
     requires { HeldReady venue.now numbers.old }
-    ensures { Checked (venueFrom venue.now) result numbers.new }
+    ensures { Checked (venue_from venue.now) result numbers.new }
 {
     if !venue_reader::load_places(numbers, venue) {
         return false;
@@ -240,7 +240,7 @@ pub fn load_bytes(numbers: &mut [u32], venue: &[u8]) -> bool
 // A message's number is above that of the message of each edition kept.
 fn follows_editions(numbers: &[u32], number: u32) -> bool
     requires { length numbers.now ≡ size }
-    ensures { result ≡ all (λ e. ltb e.message number) (venueOf numbers.now).editions }
+    ensures { result ≡ all (λ e. ltb e.message number) (venue_of numbers.now).editions }
 {
     let mut i: usize = 0;
     while i < 32 {
@@ -256,7 +256,7 @@ fn follows_editions(numbers: &[u32], number: u32) -> bool
 // A message's number is above that of each of a series' generations.
 fn follows_series(numbers: &[u32], s: usize, number: u32) -> bool
     requires { SeriesReady numbers.now s }
-    ensures { result ≡ all (λ n. ltb n number) (generationsOf (venueOf numbers.now) s) }
+    ensures { result ≡ all (λ n. ltb n number) (generations_of (venue_of numbers.now) s) }
 {
     let mut k: usize = 0;
     while k < 20 {
@@ -271,7 +271,7 @@ fn follows_series(numbers: &[u32], s: usize, number: u32) -> bool
 // A message's number is above that of every generation kept.
 fn follows_generations(numbers: &[u32], number: u32) -> bool
     requires { length numbers.now ≡ size }
-    ensures { result ≡ all (λ g. all (λ n. ltb n number) g.messages) (venueOf numbers.now).generations }
+    ensures { result ≡ all (λ g. all (λ n. ltb n number) g.messages) (venue_of numbers.now).generations }
 {
     let mut s: usize = 0;
     while s < 8 {
@@ -286,7 +286,7 @@ fn follows_generations(numbers: &[u32], number: u32) -> bool
 // A message's number is above that of each edition and of each generation kept.
 pub fn follows_kept(numbers: &[u32], number: u32) -> bool
     requires { length numbers.now ≡ size }
-    ensures { result ≡ follows number (venueOf numbers.now) }
+    ensures { result ≡ follows number (venue_of numbers.now) }
 {
     if !follows_editions(numbers, number) {
         return false;
@@ -298,7 +298,7 @@ pub fn follows_kept(numbers: &[u32], number: u32) -> bool
 // both hold, the numbers stand for it afterwards. `before` + 1 may be 2^32, which is above every number kept.
 pub fn load_bytes_ready(numbers: &mut [u32], venue: &[u8], before: u32) -> bool
     requires { HeldReady venue.now numbers.old }
-    ensures { Ready (venueFrom venue.now) before result numbers.new }
+    ensures { Ready (venue_from venue.now) before result numbers.new }
 {
     if !load_bytes(numbers, venue) {
         return false;

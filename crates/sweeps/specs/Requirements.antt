@@ -1,6 +1,6 @@
 -- What the functions require, each part by its name.
 use Rattle.std.specs.Prelude.{◌≡◌, List, ℕ, ◌≤◌, ◌+◌, length}
-use Rattle.places.specs.Layout.{size, Right, Dense, complexesUsed, venueOf}
+use Rattle.places.specs.Layout.{size, Right, Dense, complexes_used, venue_of}
 use Rattle.settling.specs.Asked.{AllStanding}
 use Rattle.sweeps.specs.Rising.{Rising}
 use Rattle.sweeps.specs.declared.Round.{Round}
@@ -9,34 +9,34 @@ use Rattle.sweeps.specs.declared.Round.{Round}
 pub record DenseRising (b : List ℕ) : Type 0 where
   pub whole : length b ≡ size
   pub dense : Dense b
-  pub rising : Rising (venueOf b).complex
+  pub rising : Rising (venue_of b).complex
 
 -- numbers without gaps, and every legging order stands
 pub record SweepReady (b : List ℕ) : Type 0 where
   pub whole : length b ≡ size
   pub dense : Dense b
-  pub stand : AllStanding (venueOf b)
+  pub stand : AllStanding (venue_of b)
 
 -- numbers without gaps, the ids of the complex orders rise, and every legging order stands
 pub record LimitedReady (b : List ℕ) : Type 0 where
   pub rising : DenseRising b
-  pub stand : AllStanding (venueOf b)
+  pub stand : AllStanding (venue_of b)
 
 -- right numbers, and `count` complex places in use from place `first` on
 pub record RightPlaces (b : List ℕ) (first count : ℕ) : Type 0 where
   pub whole : length b ≡ size
   pub right : Right b
-  pub inUse : first + count ≤ complexesUsed b
+  pub in_use : first + count ≤ complexes_used b
 
 -- right numbers and the complex places of a round, which are in use
 pub record RightRound (b : List ℕ) (r : Round) : Type 0 where
   pub whole : length b ≡ size
   pub right : Right b
-  pub above : r.first + r.above ≤ complexesUsed b
-  pub others : r.others ≤ complexesUsed b
+  pub above : r.first + r.above ≤ complexes_used b
+  pub others : r.others ≤ complexes_used b
 
 -- a whole slice and the complex places of a round, which are in use
 pub record RoundReady (b : List ℕ) (r : Round) : Type 0 where
   pub whole : length b ≡ size
-  pub above : r.first + r.above ≤ complexesUsed b
-  pub others : r.others ≤ complexesUsed b
+  pub above : r.first + r.above ≤ complexes_used b
+  pub others : r.others ≤ complexes_used b

@@ -3,9 +3,9 @@ use Rattle.std.specs.Prelude.{List, [], ◌∷◌, ◌++◌, ℕ, zero, suc}
 use Rattle.sweeps.specs.declared.Round.{Round}
 
 -- n places from place k on
-unfoldable pub placesFrom : (k n : ℕ) → List ℕ
-placesFrom k zero = []
-placesFrom k (suc n) = k ∷ placesFrom (suc k) n
+unfoldable pub places_from : (k n : ℕ) → List ℕ
+places_from k zero = []
+places_from k (suc n) = k ∷ places_from (suc k) n
 
-unfoldable pub roundPlaces : Round → List ℕ
-roundPlaces r = placesFrom r.first r.above ++ placesFrom 0 r.others
+unfoldable pub round_places : Round → List ℕ
+round_places r = places_from r.first r.above ++ places_from 0 r.others

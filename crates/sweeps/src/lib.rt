@@ -2,18 +2,18 @@
 // A contract says in one equation: the venue left and all that is written are those of the definition.
 ghost use Rattle.std.specs.Prelude.{◌≡◌, ◌++◌, ◌+◌, ◌-◌, ◌≤◌, take};
 ghost use Rattle.rules.specs.Generation.{generate};
-ghost use Rattle.rules.specs.Complex.{goingRound, examined, idReached, eachOf};
+ghost use Rattle.rules.specs.Complex.{going_round, examined, id_reached, each_of};
 ghost use Rattle.rules.specs.Complex as complex;
 ghost use Rattle.records.specs.Seen.{seen};
 ghost use Rattle.records.specs.Stage.{stage, ◌does◌};
-ghost use Rattle.places.specs.Layout.{complexesUsed, venueOf, SameCounts};
-ghost use Rattle.sweeps.specs.Round.{placesFrom, roundPlaces};
+ghost use Rattle.places.specs.Layout.{complexes_used, venue_of, SameCounts};
+ghost use Rattle.sweeps.specs.Round.{places_from, round_places};
 ghost use Rattle.sweeps.specs.Requirements.{SweepReady, LimitedReady, DenseRising, RightPlaces, RightRound, RoundReady};
 
 // Works the orders at `count` places from `first` on. It does nothing at a freed place.
 fn work_places(numbers: &mut [u32], first: usize, count: usize, out: &mut [u8], at: usize) -> usize
     requires { RightPlaces numbers.old first count }
-    ensures result_after { stage (venueOf numbers.new) out.new result ≡ seen out.old at does eachOf complex.work (placesFrom first count) (venueOf numbers.old) }
+    ensures result_after { stage (venue_of numbers.new) out.new result ≡ seen out.old at does each_of complex.work (places_from first count) (venue_of numbers.old) }
     ensures counts { SameCounts numbers.old numbers.new }
 {
     let mut pos = at;
@@ -35,7 +35,7 @@ fn generate_places(
     at: usize,
 ) -> usize
     requires { RightPlaces numbers.old first count }
-    ensures result_after { stage (venueOf numbers.new) out.new result ≡ seen out.old at does eachOf (generate number) (placesFrom first count) (venueOf numbers.old) }
+    ensures result_after { stage (venue_of numbers.new) out.new result ≡ seen out.old at does each_of (generate number) (places_from first count) (venue_of numbers.old) }
     ensures counts { SameCounts numbers.old numbers.new }
 {
     let mut pos = at;
@@ -51,7 +51,7 @@ fn generate_places(
 // until the end.
 pub fn sweep(numbers: &mut [u32], number: u32, out: &mut [u8], at: usize) -> usize
     requires { SweepReady numbers.old }
-    ensures result_after { stage (venueOf numbers.new) out.new result ≡ seen out.old at does complex.sweep number (venueOf numbers.old) }
+    ensures result_after { stage (venue_of numbers.new) out.new result ≡ seen out.old at does complex.sweep number (venue_of numbers.old) }
     ensures counts { SameCounts numbers.old numbers.new }
 {
     let used = places::complexes_used(numbers);
@@ -78,8 +78,8 @@ pub struct Swept {
 // The first place whose order has an id above the one reached, where going round starts: ids rise with the places.
 fn round_start(numbers: &[u32]) -> usize
     requires { DenseRising numbers.now }
-    ensures result_value { placesFrom result (complexesUsed numbers.now - result) ++ placesFrom 0 result ≡ goingRound (venueOf numbers.now) }
-    ensures within { result ≤ complexesUsed numbers.now }
+    ensures result_value { places_from result (complexes_used numbers.now - result) ++ places_from 0 result ≡ going_round (venue_of numbers.now) }
+    ensures within { result ≤ complexes_used numbers.now }
 {
     let used = places::complexes_used(numbers);
     let reached = places::reached_id(numbers);
@@ -97,8 +97,8 @@ fn round_start(numbers: &[u32]) -> usize
 // The places of the n orders to look at, or of all where fewer rest.
 fn round_of(numbers: &[u32], n: u8) -> Round
     requires { DenseRising numbers.now }
-    ensures result_value { roundPlaces result ≡ take n (goingRound (venueOf numbers.now)) }
-    ensures within { (result.first + result.above ≤ complexesUsed numbers.now) × (result.others ≤ complexesUsed numbers.now) }
+    ensures result_value { round_places result ≡ take n (going_round (venue_of numbers.now)) }
+    ensures within { (result.first + result.above ≤ complexes_used numbers.now) × (result.others ≤ complexes_used numbers.now) }
 {
     let used = places::complexes_used(numbers);
     let first = round_start(numbers);
@@ -128,7 +128,7 @@ fn round_of(numbers: &[u32], n: u8) -> Round
 // The id at the last place of the round; where the round has no place, the id reached before.
 fn last_looked(numbers: &[u32], r: Round) -> u32
     requires { RoundReady numbers.now r }
-    ensures { result ≡ idReached (venueOf numbers.now) (roundPlaces r) }
+    ensures { result ≡ id_reached (venue_of numbers.now) (round_places r) }
 {
     if 0 < r.others {
         let c = places::complex_at(numbers, r.others - 1);
@@ -144,7 +144,7 @@ fn last_looked(numbers: &[u32], r: Round) -> u32
 // Works the orders at the places of the round, in its order.
 fn work_round(numbers: &mut [u32], r: Round, out: &mut [u8], at: usize) -> usize
     requires { RightRound numbers.old r }
-    ensures result_after { stage (venueOf numbers.new) out.new result ≡ seen out.old at does eachOf complex.work (roundPlaces r) (venueOf numbers.old) }
+    ensures result_after { stage (venue_of numbers.new) out.new result ≡ seen out.old at does each_of complex.work (round_places r) (venue_of numbers.old) }
     ensures counts { SameCounts numbers.old numbers.new }
 {
     let pos = work_places(numbers, r.first, r.above, out, at);
@@ -154,7 +154,7 @@ fn work_round(numbers: &mut [u32], r: Round, out: &mut [u8], at: usize) -> usize
 // Generation for the orders at the places of the round, in its order.
 fn generate_round(numbers: &mut [u32], number: u32, r: Round, out: &mut [u8], at: usize) -> usize
     requires { RightRound numbers.old r }
-    ensures result_after { stage (venueOf numbers.new) out.new result ≡ seen out.old at does eachOf (generate number) (roundPlaces r) (venueOf numbers.old) }
+    ensures result_after { stage (venue_of numbers.new) out.new result ≡ seen out.old at does each_of (generate number) (round_places r) (venue_of numbers.old) }
     ensures counts { SameCounts numbers.old numbers.new }
 {
     let pos = generate_places(numbers, number, r.first, r.above, out, at);
@@ -165,9 +165,9 @@ fn generate_round(numbers: &mut [u32], number: u32, r: Round, out: &mut [u8], at
 // Its places stay as they are until its end, whatever happens to the orders there.
 pub fn limited_sweep(numbers: &mut [u32], number: u32, n: u8, out: &mut [u8], at: usize) -> Swept
     requires { LimitedReady numbers.old }
-    ensures at_after { stage (venueOf numbers.new) out.new result.at ≡ seen out.old at does complex.limitedSweep number n (venueOf numbers.old) }
+    ensures at_after { stage (venue_of numbers.new) out.new result.at ≡ seen out.old at does complex.limited_sweep number n (venue_of numbers.old) }
     ensures counts { SameCounts numbers.old numbers.new }
-    ensures looked { result.looked ≡ examined n (venueOf numbers.old) }
+    ensures looked { result.looked ≡ examined n (venue_of numbers.old) }
 {
     let round = round_of(numbers, n);
     let looked = (round.above + round.others) as u8;

@@ -4,9 +4,9 @@ use mathlib.Core.List.{List}
 use Prim.Native.Nat.{ℕ, zero, suc, ◌+◌, ◌-◌, ◌≤◌}
 use native.Mathlib.Omega.{arith}
 use lib.ListN.{length, take, drop}
-use Rattle.rules.specs.Records.{Report, recordOf, recordsFrom, records}
+use Rattle.rules.specs.Records.{Report, record_of, records_from, records}
 use Rattle.records.specs.declared.Next.TheVariants.{Found, End}
-use Rattle.records.specs.Next.{nextRecord}
+use Rattle.records.specs.Next.{next_record}
 use Rattle.records.specs.Seen.{Seen}
 use Rattle.records.proofs.NextLaws.{Follows, next-follows, next-ends}
 use Rattle.records.proofs.SeenLaws.{part-all}
@@ -19,7 +19,7 @@ pub record Left (w : Seen) (report : List ℕ) (x : Seen) (from : ℕ) : Type 0 
   pub inside : from ≤ length report
   pub fuel : ℕ
   pub enough : length report ≤ from + fuel
-  pub is : x types text_of (recordsFrom fuel (drop from report)) ≡ w
+  pub is : x types text_of (records_from fuel (drop from report)) ≡ w
 
 pub left-start : (w : Seen) (report : List ℕ) → Left (w types text_of (records report)) report w 0
 unfolding records
@@ -27,32 +27,32 @@ left-start w report = record { inside = omega arith; fuel = length report; enoug
 
 module _ {w : Seen} {report : List ℕ} {x : Seen} {from : ℕ} (l : Left w report x from) where
   -- one record more
-  pub left-more : (kind to : ℕ) (y : Seen) → nextRecord report from ≡ Found kind to →
-      y ≡ x types line_of (recordOf (take (length report - from) (drop from report))) → Left w report y to
+  pub left-more : (kind to : ℕ) (y : Seen) → next_record report from ≡ Found kind to →
+      y ≡ x types line_of (record_of (take (length report - from) (drop from report))) → Left w report y to
   unfolding text_of
   left-more kind to y e q = go l.fuel l.enough l.is
     where
       f : Follows report from kind to
       f = next-follows report from kind to e
 
-      go : (fuel : ℕ) → length report ≤ from + fuel → x types text_of (recordsFrom fuel (drop from report)) ≡ w → Left w report y to
+      go : (fuel : ℕ) → length report ≤ from + fuel → x types text_of (records_from fuel (drop from report)) ≡ w → Left w report y to
       go zero enough is = let a = f.further in let b = f.inside in absurd (omega arith)
       go (suc fuel) enough is =
-          let r : Report = recordOf (drop from report) in
-          let rest : List Report = recordsFrom fuel (drop to report) in
+          let r : Report = record_of (drop from report) in
+          let rest : List Report = records_from fuel (drop to report) in
           let a = f.further in
           record {
             inside = f.inside;
             fuel = fuel;
             enough = omega arith;
             is =
-                ap (λ (z : Seen). z types text_of rest) (q ∙ ap (λ (bs : List ℕ). x types line_of (recordOf bs)) (part-all report from))
+                ap (λ (z : Seen). z types text_of rest) (q ∙ ap (λ (bs : List ℕ). x types line_of (record_of bs)) (part-all report from))
                 ∙ sym (types-append x (line_of r) (text_of rest))
                 ∙ ap (λ (rs : List Report). x types text_of rs) (sym (f.rest-is fuel))
                 ∙ is;
           }
 
   -- the last was typed
-  pub left_end : nextRecord report from ≡ End → x ≡ w
+  pub left_end : next_record report from ≡ End → x ≡ w
   unfolding text_of ◌types◌
   left_end e = ap (λ (rs : List Report). x types text_of rs) (sym (next-ends report from e l.fuel)) ∙ l.is

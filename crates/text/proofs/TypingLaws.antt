@@ -10,10 +10,10 @@ use lib.ListN.{length, get_or, set, take, drop, drop_of_length-le}
 use lib.Seq.{set_split, append_snoc, drop-cons}
 use borrow.Author.Tests.{lt-ltb, le-ltb, ltb-false, ne_eqb}
 use Rattle.rules.specs.Bytes.{as_signed}
-use Rattle.rules.specs.Records.{causeNumber, causeOf}
+use Rattle.rules.specs.Records.{cause_number, cause_of}
 use Rattle.records.specs.Seen.{Seen, seen, pasted, ◌plus◌}
 use Rattle.records.proofs.SeenLaws.{plus-in, plus-out, pasted-nil, pasted-pasted, pasted_length}
-use Rattle.text.specs.Lines.{decimal, digits, signedText, word, words}
+use Rattle.text.specs.Lines.{decimal, digits, signed_text, word, words}
 use Rattle.text.specs.Typing.{◌types◌}
 
 -- One byte ------------------------------------------------------------------------------------
@@ -87,13 +87,13 @@ unfolding decimal digits
 decimal-more zero h = absurd (omega arith)
 decimal-more (suc n) h = rw (le-ltb (suc n) 10 h, digits) (ap (λ (x : List ℕ). x ++ ((48 + suc n % 10) ∷ [])) (fuels n (suc n / 10) (suc n / 10) (omega arith) (omega arith)))
 
--- a signedText number by its bits
-pub signed-small : (x : ℕ) → x < 2147483648 → signedText (as_signed x) ≡ decimal x
-unfolding signedText as_signed
+-- a signed_text number by its bits
+pub signed-small : (x : ℕ) → x < 2147483648 → signed_text (as_signed x) ≡ decimal x
+unfolding signed_text as_signed
 signed-small x h = rw (lt-ltb x 2147483648 h)
 
-pub signed-large : (x : ℕ) → 2147483648 ≤ x → signedText (as_signed x) ≡ 45 ∷ decimal (4294967295 - x + 1)
-unfolding signedText as_signed
+pub signed-large : (x : ℕ) → 2147483648 ≤ x → signed_text (as_signed x) ≡ 45 ∷ decimal (4294967295 - x + 1)
+unfolding signed_text as_signed
 signed-large x h = rw (le-ltb x 2147483648 h, add-one)
 
 -- Fields --------------------------------------------------------------------------------------
@@ -117,12 +117,12 @@ words-end w x fields i h e = ap (λ (l : List ℕ). x types words l) (sym (drop_
 
 -- A cause's number ----------------------------------------------------------------------------
 
-pub cause-none : (n : ℕ) → n ≡ 0 → causeNumber (causeOf n) ≡ 10
-unfolding causeOf
+pub cause-none : (n : ℕ) → n ≡ 0 → cause_number (cause_of n) ≡ 10
+unfolding cause_of
 cause-none n e = rw e
 
-pub cause-large : (n : ℕ) → 8 < n → causeNumber (causeOf n) ≡ 10
-unfolding causeOf
+pub cause-large : (n : ℕ) → 8 < n → cause_number (cause_of n) ≡ 10
+unfolding cause_of
 cause-large n h =
     rw (
       ne_eqb n 1 (λ e. omega arith),
@@ -135,8 +135,8 @@ cause-large n h =
       ne_eqb n 8 (λ e. omega arith),
     )
 
-pub cause-same : (n : ℕ) → 0 < n → n ≤ 8 → causeNumber (causeOf n) ≡ n
-unfolding causeOf
+pub cause-same : (n : ℕ) → 0 < n → n ≤ 8 → cause_number (cause_of n) ≡ n
+unfolding cause_of
 cause-same zero h k = absurd (omega arith)
 cause-same (suc zero) h k = refl
 cause-same (suc (suc zero)) h k = refl

@@ -9,11 +9,11 @@ use lib.Dec.{ltb}
 use lib.IntN.{ℤ, pos, negsuc}
 use lib.ListN.{length, length-append}
 use borrow.Author.Tests.{ltb-true, ltb-false}
-use Rattle.rules.specs.Lengths.{recordLength}
-use Rattle.rules.specs.Records.{Fits, FourSigned, Report, answer, trade, pair, generated, removed, crossed, cancelled, looked, causeNumber, encode, encodeAll}
+use Rattle.rules.specs.Lengths.{record_length}
+use Rattle.rules.specs.Records.{Fits, FourSigned, Report, answer, trade, pair, generated, removed, crossed, cancelled, looked, cause_number, encode, encode_all}
 use Rattle.rules.proofs.Reading.{cause-small}
 use Rattle.rules.proofs.Worth.{lengths}
-use Rattle.text.specs.Lines.{decimal, line, line_of, signedText, signedWord, text_of, word, words}
+use Rattle.text.specs.Lines.{decimal, line, line_of, signed_text, signed_word, text_of, word, words}
 use Rattle.text.specs.Widths.{TextAtMost}
 use Rattle.text.proofs.TypingLaws.{decimal-more, decimal-small}
 
@@ -44,15 +44,15 @@ number-length : (n : ℕ) → n < 4294967296 → length (word n) ≤ 11
 unfolding word
 number-length n h = let i = decimal-length 9 n (omega arith) in omega arith
 
-signed-length : (z : ℤ) → FourSigned z → length (signedWord z) ≤ 12
-unfolding signedWord signedText
+signed-length : (z : ℤ) → FourSigned z → length (signed_word z) ≤ 12
+unfolding signed_word signed_text
 signed-length (pos n) h = let i = decimal-length 9 n (omega arith) in omega arith
 signed-length (negsuc n) h = let i = decimal-length 9 (suc n) (omega arith) in omega arith
 
 -- Lines ---------------------------------------------------------------------------------------
 
-line-most : (r : Report) → Fits r → 2 * length (line_of r) ≤ 5 * recordLength r
-unfolding line_of line words recordLength
+line-most : (r : Report) → Fits r → 2 * length (line_of r) ≤ 5 * record_length r
+unfolding line_of line words record_length
 line-most (answer number refusal mask count) f =
     let k = decimal-length 1 64 (omega arith) in
     let a = number-length number f.0 in
@@ -89,7 +89,7 @@ line-most (removed id series side cause) f =
     let a = number-length id f.0 in
     let b = byte-length series f.1 in
     let c = byte-length side f.2 in
-    let d = byte-length (causeNumber cause) (cause-small cause) in
+    let d = byte-length (cause_number cause) (cause-small cause) in
     simp length-append (omega arith)
 line-most (crossed taker maker n quantity) f =
     let k = decimal-length 1 70 (omega arith) in
@@ -109,12 +109,12 @@ line-most (looked count) f =
     simp length-append (omega arith)
 
 pub text-at-most : TextAtMost
-unfolding text_of encodeAll
+unfolding text_of encode_all
 text-at-most [] f = omega arith
 text-at-most (r ∷ rs) f =
     let a = line-most r f.0 in
     let b = lengths r in
     let c = text-at-most rs f.1 in
     let d = length-append (line_of r) (text_of rs) in
-    let e = length-append (encode r) (encodeAll rs) in
+    let e = length-append (encode r) (encode_all rs) in
     omega arith

@@ -1,7 +1,7 @@
 -- Document 01, "Trials": the printing program "prints a line per record of a run whose report memory never fills: kind, then fields in table order,
 -- blank between". Text is a list of ASCII codes.
 use Rattle.std.specs.Prelude.{◌≡◌, refl, true, false, List, [], ◌∷◌, ◌++◌, ℕ, zero, suc, ◌+◌, ◌/◌, ◌%◌, ltb, ℤ, pos, negsuc}
-use Rattle.rules.specs.Records.{Report, answer, trade, pair, generated, removed, crossed, cancelled, looked, causeNumber}
+use Rattle.rules.specs.Records.{Report, answer, trade, pair, generated, removed, crossed, cancelled, looked, cause_number}
 
 -- Numbers -------------------------------------------------------------------------------------
 
@@ -14,9 +14,9 @@ unfoldable pub decimal : ℕ → List ℕ
 decimal n = digits n n
 
 -- a number that may be negative: a minus sign before its size
-unfoldable pub signedText : ℤ → List ℕ
-signedText (pos n) = decimal n
-signedText (negsuc n) = 45 ∷ decimal (suc n)
+unfoldable pub signed_text : ℤ → List ℕ
+signed_text (pos n) = decimal n
+signed_text (negsuc n) = 45 ∷ decimal (suc n)
 
 -- A line --------------------------------------------------------------------------------------
 
@@ -24,8 +24,8 @@ signedText (negsuc n) = 45 ∷ decimal (suc n)
 unfoldable pub word : ℕ → List ℕ
 word n = 32 ∷ decimal n
 
-unfoldable pub signedWord : ℤ → List ℕ
-signedWord z = 32 ∷ signedText z
+unfoldable pub signed_word : ℤ → List ℕ
+signed_word z = 32 ∷ signed_text z
 
 -- the end of the line
 abbrev pub ending : List ℕ
@@ -45,13 +45,13 @@ line_of (answer number refusal mask count) = line 64 (number ∷ refusal ∷ mas
 -- 65 trade: series, taker's side, price, quantity, taker id, maker id
 line_of (trade series side price quantity taker maker) = line 65 (series ∷ side ∷ price ∷ quantity ∷ taker ∷ maker ∷ [])
 -- 66 pair: complex id, net, quantity
-line_of (pair id n quantity) = decimal 66 ++ word id ++ signedWord n ++ word quantity ++ ending
+line_of (pair id n quantity) = decimal 66 ++ word id ++ signed_word n ++ word quantity ++ ending
 -- 67 generated: complex id, series, side, price, displayed, quantity
 line_of (generated id series side price displayed quantity) = line 67 (id ∷ series ∷ side ∷ price ∷ displayed ∷ quantity ∷ [])
 -- 68 removed: complex id, series, side, cause
-line_of (removed id series side cause) = line 68 (id ∷ series ∷ side ∷ causeNumber cause ∷ [])
+line_of (removed id series side cause) = line 68 (id ∷ series ∷ side ∷ cause_number cause ∷ [])
 -- 70 cross: taker id, maker id, taker's net, quantity
-line_of (crossed taker maker n quantity) = decimal 70 ++ word taker ++ word maker ++ signedWord n ++ word quantity ++ ending
+line_of (crossed taker maker n quantity) = decimal 70 ++ word taker ++ word maker ++ signed_word n ++ word quantity ++ ending
 -- 71 cancelled: id, quantity
 line_of (cancelled id quantity) = line 71 (id ∷ quantity ∷ [])
 -- 02 (m), 72: orders looked at
@@ -66,5 +66,5 @@ text_of (r ∷ rs) = line_of r ++ text_of rs
 pub printed : text_of (trade 0 1 115 5 4 3 ∷ pair 3 (negsuc 204) 10 ∷ []) ≡
     54 ∷ 53 ∷ 32 ∷ 48 ∷ 32 ∷ 49 ∷ 32 ∷ 49 ∷ 49 ∷ 53 ∷ 32 ∷ 53 ∷ 32 ∷ 52 ∷ 32 ∷ 51 ∷ 10
     ∷ 54 ∷ 54 ∷ 32 ∷ 51 ∷ 32 ∷ 45 ∷ 50 ∷ 48 ∷ 53 ∷ 32 ∷ 49 ∷ 48 ∷ 10 ∷ []
-unfolding text_of line_of line words word signedWord signedText decimal digits
+unfolding text_of line_of line words word signed_word signed_text decimal digits
 printed = refl

@@ -1,9 +1,9 @@
 // The sheet as text: writes a line for each record of a report memory into a slice.
 ghost use Rattle.std.specs.Prelude.{◌≡◌, [], ◌∷◌, ◌+◌, ◌<◌};
-ghost use Rattle.rules.specs.Bytes.{u8_at, u16At, u32_at, as_signed};
-ghost use Rattle.rules.specs.Records.{answer, trade, pair, generated, removed, crossed, cancelled, looked, causeNumber, causeOf, recordOf, records};
+ghost use Rattle.rules.specs.Bytes.{u8_at, u16_at, u32_at, as_signed};
+ghost use Rattle.rules.specs.Records.{answer, trade, pair, generated, removed, crossed, cancelled, looked, cause_number, cause_of, record_of, records};
 ghost use Rattle.records.specs.Seen.{seen};
-ghost use Rattle.text.specs.Lines.{decimal, signedText, word, words, signedWord, line, line_of, text_of};
+ghost use Rattle.text.specs.Lines.{decimal, signed_text, word, words, signed_word, line, line_of, text_of};
 ghost use Rattle.text.specs.Typing.{◌types◌};
 
 use records::Next;
@@ -43,7 +43,7 @@ fn put_number(out: &mut [u8], at: usize, n: u32) -> usize
 
 // The signed number whose 32 bits, in two's complement, are `bits`: a negative one has a minus sign.
 fn put_signed(out: &mut [u8], at: usize, bits: u32) -> usize
-    ensures { seen out.new result ≡ seen out.old at types signedText (as_signed bits) }
+    ensures { seen out.new result ≡ seen out.old at types signed_text (as_signed bits) }
 {
     if bits < 2147483648 {
         return put_number(out, at, bits);
@@ -62,7 +62,7 @@ fn put_word(out: &mut [u8], at: usize, n: u32) -> usize
 
 // A field: a blank, and a signed number.
 fn put_signed_word(out: &mut [u8], at: usize, bits: u32) -> usize
-    ensures { seen out.new result ≡ seen out.old at types signedWord (as_signed bits) }
+    ensures { seen out.new result ≡ seen out.old at types signed_word (as_signed bits) }
 {
     let pos = put_byte(out, at, 32);
     put_signed(out, pos, bits)
@@ -101,14 +101,14 @@ fn byte_at(s: &[u8], at: usize) -> u32
 
 // The number of 16 bits at a position as a number of 32 bits.
 fn half_at(s: &[u8], at: usize) -> u32
-    ensures { result ≡ u16At s.now at }
+    ensures { result ≡ u16_at s.now at }
 {
     wire::u16_at(s, at) as u32
 }
 
 // 64: message number, refusal or 0, place mask, count.
 fn put_answer(out: &mut [u8], at: usize, s: &[u8]) -> usize
-    ensures { seen out.new result ≡ seen out.old at types line_of (answer (u32_at s.now 4) (u8_at s.now 8) (u16At s.now 9) (u8_at s.now 11)) }
+    ensures { seen out.new result ≡ seen out.old at types line_of (answer (u32_at s.now 4) (u8_at s.now 8) (u16_at s.now 9) (u8_at s.now 11)) }
 {
     let fields = [
         wire::u32_at(s, 4),
@@ -162,7 +162,7 @@ fn put_generated(out: &mut [u8], at: usize, s: &[u8]) -> usize
 
 // The cause's number in a record. A byte that is no cause's number is read as 10.
 fn cause_at(s: &[u8], at: usize) -> u32
-    ensures { result ≡ causeNumber (causeOf (u8_at s.now at)) }
+    ensures { result ≡ cause_number (cause_of (u8_at s.now at)) }
 {
     let n = byte_at(s, at);
     if n == 0 {
@@ -176,7 +176,7 @@ fn cause_at(s: &[u8], at: usize) -> u32
 
 // 68: complex id, series, side, cause.
 fn put_removed(out: &mut [u8], at: usize, s: &[u8]) -> usize
-    ensures { seen out.new result ≡ seen out.old at types line_of (removed (u32_at s.now 4) (u8_at s.now 8) (u8_at s.now 9) (causeOf (u8_at s.now 10))) }
+    ensures { seen out.new result ≡ seen out.old at types line_of (removed (u32_at s.now 4) (u8_at s.now 8) (u8_at s.now 9) (cause_of (u8_at s.now 10))) }
 {
     let fields = [
         wire::u32_at(s, 4),
@@ -217,7 +217,7 @@ fn put_looked(out: &mut [u8], at: usize, s: &[u8]) -> usize
 
 // The line of the record at the front of `s`, by its kind.
 pub fn put_line(out: &mut [u8], at: usize, s: &[u8]) -> usize
-    ensures { seen out.new result ≡ seen out.old at types line_of (recordOf s.now) }
+    ensures { seen out.new result ≡ seen out.old at types line_of (record_of s.now) }
 {
     let kind = wire::u16_at(s, 2);
     if kind == 64 {

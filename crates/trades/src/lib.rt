@@ -1,14 +1,14 @@
 // Trades and their records: contracts at one price, a pair, a hit, a meeting; and cancelled orders.
 // A contract says in one equation: the venue left and all that is written are those of the definition.
 ghost use Rattle.std.specs.Prelude.{◌≡◌, ◌≤◌, min, nat_abs, length};
-ghost use Rattle.rules.specs.Trading.{fillComplex, tradeWith, pairOff};
+ghost use Rattle.rules.specs.Trading.{fill_complex, trade_with, pair_off};
 ghost use Rattle.rules.specs.Trading as trading;
 ghost use Rattle.rules.specs.Order as order;
-ghost use Rattle.rules.specs.Complex.{complexPlace, cancelRegular, cancelComplex};
+ghost use Rattle.rules.specs.Complex.{complex_place, cancel_regular, cancel_complex};
 ghost use Rattle.records.specs.Seen.{seen};
 ghost use Rattle.records.specs.Stage.{stage, ◌does◌};
-ghost use Rattle.places.specs.Layout.{size, venueOf, SameCounts};
-ghost use Rattle.trades.specs.Hits.{pairingOf};
+ghost use Rattle.places.specs.Layout.{size, venue_of, SameCounts};
+ghost use Rattle.trades.specs.Hits.{pairing_of};
 ghost use Rattle.places.specs.Requirements.{RightNumbers, RegularReady, ComplexReady, RegularsReady, RightRegular};
 
 use arithmetic::opposite_of;
@@ -26,7 +26,7 @@ fn trade_with(
     at: usize,
 ) -> usize
     requires { RegularReady numbers.old j }
-    ensures result_after { stage (venueOf numbers.new) out.new result ≡ seen out.old at does tradeWith taker side j k (venueOf numbers.old) }
+    ensures result_after { stage (venue_of numbers.new) out.new result ≡ seen out.old at does trade_with taker side j k (venue_of numbers.old) }
     ensures counts { SameCounts numbers.old numbers.new }
 {
     let m = places::regular_at(numbers, j);
@@ -56,7 +56,7 @@ pub fn trade_at_price(
     at: usize,
 ) -> usize
     requires { RightNumbers numbers.old }
-    ensures result_after { stage (venueOf numbers.new) out.new result ≡ seen out.old at does trading.tradeAtPrice quantity taker series side price quantity (venueOf numbers.old) }
+    ensures result_after { stage (venue_of numbers.new) out.new result ≡ seen out.old at does trading.trade_at_price quantity taker series side price quantity (venue_of numbers.old) }
     ensures counts { SameCounts numbers.old numbers.new }
 {
     let other = opposite_of(side);
@@ -77,7 +77,7 @@ pub fn trade_at_price(
 // The complex order at place i, if there is one, is filled for k units.
 fn fill_pair(numbers: &mut [u32], i: usize, k: u32)
     requires { length numbers.old ≡ size }
-    ensures numbers_after { venueOf numbers.new ≡ fillComplex i k (venueOf numbers.old) }
+    ensures numbers_after { venue_of numbers.new ≡ fill_complex i k (venue_of numbers.old) }
     ensures counts { SameCounts numbers.old numbers.new }
 {
     if places::complexes_used(numbers) <= i {
@@ -97,7 +97,7 @@ pub fn pair_off(
     at: usize,
 ) -> usize
     requires { length numbers.old ≡ size }
-    ensures result_after { stage (venueOf numbers.new) out.new result ≡ seen out.old at does pairOff i id net k (venueOf numbers.old) }
+    ensures result_after { stage (venue_of numbers.new) out.new result ≡ seen out.old at does pair_off i id net k (venue_of numbers.old) }
     ensures counts { SameCounts numbers.old numbers.new }
 {
     fill_pair(numbers, i, k);
@@ -118,7 +118,7 @@ pub struct Pairing {
 // What a hit of a legging order pairs.
 fn pairing_of(numbers: &[u32], l: Legging, series: u8, side: u8) -> Pairing
     requires { RightNumbers numbers.now }
-    ensures value { result ≡ pairingOf (venueOf numbers.now) l series side }
+    ensures value { result ≡ pairing_of (venue_of numbers.now) l series side }
     ensures bounded { nat_abs result.net ≤ 2190433320450 }
 {
     let c = prices::parent_of(numbers, l);
@@ -139,7 +139,7 @@ fn pairing_of(numbers: &[u32], l: Legging, series: u8, side: u8) -> Pairing
 // The place of the resting complex order with an id; 32 where there is none.
 fn place_or_end(numbers: &[u32], id: u32) -> usize
     requires { length numbers.now ≡ size }
-    ensures { result ≡ complexPlace (venueOf numbers.now) id }
+    ensures { result ≡ complex_place (venue_of numbers.now) id }
 {
     let found = book::complex_place(numbers, id);
     match found {
@@ -151,7 +151,7 @@ fn place_or_end(numbers: &[u32], id: u32) -> usize
 // The order at place i hits a legging order for k contracts: the trade, then the pairing.
 pub fn hit(numbers: &mut [u32], i: usize, l: Legging, k: u32, out: &mut [u8], at: usize) -> usize
     requires { RightRegular numbers.old i }
-    ensures result_after { stage (venueOf numbers.new) out.new result ≡ seen out.old at does order.hit i l k (venueOf numbers.old) }
+    ensures result_after { stage (venue_of numbers.new) out.new result ≡ seen out.old at does order.hit i l k (venue_of numbers.old) }
     ensures counts { SameCounts numbers.old numbers.new }
 {
     let o = places::regular_at(numbers, i);
@@ -168,7 +168,7 @@ pub fn hit(numbers: &mut [u32], i: usize, l: Legging, k: u32, out: &mut [u8], at
 // The order at place i trades k contracts with the regular order at place j.
 pub fn meet(numbers: &mut [u32], i: usize, j: usize, k: u32, out: &mut [u8], at: usize) -> usize
     requires { RegularsReady numbers.old i j }
-    ensures result_after { stage (venueOf numbers.new) out.new result ≡ seen out.old at does order.meet i j k (venueOf numbers.old) }
+    ensures result_after { stage (venue_of numbers.new) out.new result ≡ seen out.old at does order.meet i j k (venue_of numbers.old) }
     ensures counts { SameCounts numbers.old numbers.new }
 {
     let o = places::regular_at(numbers, i);
@@ -179,7 +179,7 @@ pub fn meet(numbers: &mut [u32], i: usize, j: usize, k: u32, out: &mut [u8], at:
 // The regular order at place i is cancelled.
 pub fn cancel_regular(numbers: &mut [u32], i: usize, out: &mut [u8], at: usize) -> usize
     requires { RegularReady numbers.old i }
-    ensures result_after { stage (venueOf numbers.new) out.new result ≡ seen out.old at does cancelRegular i (venueOf numbers.old) }
+    ensures result_after { stage (venue_of numbers.new) out.new result ≡ seen out.old at does cancel_regular i (venue_of numbers.old) }
     ensures counts { SameCounts numbers.old numbers.new }
 {
     let o = places::regular_at(numbers, i);
@@ -190,7 +190,7 @@ pub fn cancel_regular(numbers: &mut [u32], i: usize, out: &mut [u8], at: usize) 
 // The complex order at place i is cancelled, and its legging orders go.
 pub fn cancel_complex(numbers: &mut [u32], i: usize, out: &mut [u8], at: usize) -> usize
     requires { ComplexReady numbers.old i }
-    ensures result_after { stage (venueOf numbers.new) out.new result ≡ seen out.old at does cancelComplex i (venueOf numbers.old) }
+    ensures result_after { stage (venue_of numbers.new) out.new result ≡ seen out.old at does cancel_complex i (venue_of numbers.old) }
     ensures counts { SameCounts numbers.old numbers.new }
 {
     let c = places::complex_at(numbers, i);

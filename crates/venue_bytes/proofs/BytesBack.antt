@@ -7,15 +7,15 @@ use native.Mathlib.Omega.{arith}
 use lib.ListN.{length, get_or, drop, length-append, length-drop}
 use lib.Seq.{drop-drop}
 use Rattle.rules.specs.declared.Generations.{Generations}
-use Rattle.rules.specs.Bytes.{u8_at, u32_at, asUnsigned, as_signed, bytes, u8, u32}
+use Rattle.rules.specs.Bytes.{u8_at, u32_at, as_unsigned, as_signed, bytes, u8, u32}
 use Rattle.wire.proofs.Numbers.{u32-here}
 use Rattle.places.specs.Layout.{upto}
 use Rattle.places.proofs.Tables.{upto-length, upto-at, upto-along}
 use Rattle.sets.specs.Promises.{AllBytes}
 use Rattle.sets.proofs.Spelled.{At, u8-at, u32-at, join, all-at, bytes_drop, word_small, unsigned_back}
-use Rattle.venue_bytes.specs.Held.{editionsAt, reservesAt, ratiosAt, generationsAt, reachedAt, venueSize, regularBytes, complexBytes, leggingBytes, listedBytes}
-use Rattle.venue_bytes.specs.Held.{editionBytes, reserveBytes, ratioBytes, messagesOf, generationsBytes, rows, venueBytes}
-use Rattle.venue_bytes.specs.Held.{row_at, rows_at, venueFrom, regularFrom, complexFrom, leggingFrom, listedFrom, editionFrom, generationsFrom}
+use Rattle.venue_bytes.specs.Held.{editions_at, reserves_at, ratios_at, generations_at, reached_at, venue_size, regular_bytes, complex_bytes, legging_bytes, listed_bytes}
+use Rattle.venue_bytes.specs.Held.{edition_bytes, reserve_bytes, ratio_bytes, messages_of, generations_bytes, rows, venue_bytes}
+use Rattle.venue_bytes.specs.Held.{row_at, rows_at, venue_from, regular_from, complex_from, legging_from, listed_from, edition_from, generations_from}
 use Rattle.venue_bytes.specs.Held.{BytesBack, EqualBytes}
 use Rattle.venue_bytes.proofs.Rows.{rows-length}
 use Rattle.venue_bytes.proofs.Widths.{regular-width, complex-width, legging-width, listed-width, edition-width, reserve-width, ratio-width}
@@ -45,35 +45,35 @@ module _ (s : List ℕ) (all : AllBytes s) where
   id-first : 4 ≤ length s → First s 4 (u32 (u32_at s 0))
   id-first h = and_word 0 [] (omega arith) (none_yet s)
 
-  regular-spelled : (t : List ℕ) → 14 ≤ length s → First s 14 (regularBytes (regularFrom s t))
-  unfolding regularBytes regularFrom
+  regular-spelled : (t : List ℕ) → 14 ≤ length s → First s 14 (regular_bytes (regular_from s t))
+  unfolding regular_bytes regular_from
   regular-spelled t h = and_word 10 _ (omega arith) (and_word 6 _ (omega arith) (and_byte 5 _ (omega arith) (and_byte 4 _ (omega arith) (id-first (omega arith)))))
 
-  reserve-spelled : (t : List ℕ) → 8 ≤ length s → First s 8 (reserveBytes (regularFrom t s))
-  unfolding reserveBytes regularFrom
+  reserve-spelled : (t : List ℕ) → 8 ≤ length s → First s 8 (reserve_bytes (regular_from t s))
+  unfolding reserve_bytes regular_from
   reserve-spelled t h = and_word 4 _ (omega arith) (id-first (omega arith))
 
-  complex-spelled : (t : List ℕ) → 17 ≤ length s → First s 17 (complexBytes (complexFrom s t))
-  unfolding complexBytes complexFrom
+  complex-spelled : (t : List ℕ) → 17 ≤ length s → First s 17 (complex_bytes (complex_from s t))
+  unfolding complex_bytes complex_from
   complex-spelled t h =
       rw (unsigned_back (u32_at s 9) (word_small s all 9))
       (and_word 13 _ (omega arith) (and_word 9 _ (omega arith) (and_byte 8 _ (omega arith) (and_byte 7 _ (omega arith) (and_byte 6 _ (omega arith)
       (and_byte 5 _ (omega arith) (and_byte 4 _ (omega arith) (id-first (omega arith)))))))))
 
-  ratio-spelled : (t : List ℕ) → 2 ≤ length s → First s 2 (ratioBytes (complexFrom t s))
-  unfolding ratioBytes complexFrom
+  ratio-spelled : (t : List ℕ) → 2 ≤ length s → First s 2 (ratio_bytes (complex_from t s))
+  unfolding ratio_bytes complex_from
   ratio-spelled t h = and_byte 1 (u8 (u8_at s 0)) (omega arith) (and_byte 0 [] (omega arith) (none_yet s))
 
-  legging-spelled : 12 ≤ length s → First s 12 (leggingBytes (leggingFrom s))
-  unfolding leggingBytes leggingFrom
+  legging-spelled : 12 ≤ length s → First s 12 (legging_bytes (legging_from s))
+  unfolding legging_bytes legging_from
   legging-spelled h = and_word 8 _ (omega arith) (and_word 4 _ (omega arith) (id-first (omega arith)))
 
-  listed-spelled : 9 ≤ length s → First s 9 (listedBytes (listedFrom s))
-  unfolding listedBytes listedFrom
+  listed-spelled : 9 ≤ length s → First s 9 (listed_bytes (listed_from s))
+  unfolding listed_bytes listed_from
   listed-spelled h = and_word 5 _ (omega arith) (and_word 1 (u8 (u8_at s 0)) (omega arith) (and_byte 0 [] (omega arith) (none_yet s)))
 
-  edition-spelled : 10 ≤ length s → First s 10 (editionBytes (editionFrom s))
-  unfolding editionBytes editionFrom
+  edition-spelled : 10 ≤ length s → First s 10 (edition_bytes (edition_from s))
+  unfolding edition_bytes edition_from
   edition-spelled h = and_byte 9 _ (omega arith) (and_byte 8 _ (omega arith) (and_word 4 _ (omega arith) (id-first (omega arith))))
 
 -- A table -------------------------------------------------------------------------------------
@@ -96,8 +96,8 @@ rows-at row width even f from bs i (suc k) here =
     (rows-at row width even f from bs (suc i) k (λ j p q. here j (omega arith) (omega arith)))
 
 -- the numbers read for a series' generations are those that are written
-messages-read : (s : List ℕ) → messagesOf (generationsFrom s) ≡ upto (λ k. u32_at s (4 * k)) 0 20
-unfolding generationsFrom
+messages-read : (s : List ℕ) → messages_of (generations_from s) ≡ upto (λ k. u32_at s (4 * k)) 0 20
+unfolding generations_from
 messages-read s = upto-along (λ k. get_or (upto (λ i. u32_at s (4 * i)) 0 20) k 0) (λ k. u32_at s (4 * k)) 0 0 20
     (λ x h. let e : 0 + x ≡ x = omega arith in ap (λ (k : ℕ). get_or (upto (λ i. u32_at s (4 * i)) 0 20) k 0) e ∙ upto-at (λ i. u32_at s (4 * i)) 0 0 20 x h)
 
@@ -120,8 +120,8 @@ module _ (bs : List ℕ) (all : AllBytes bs) where
           first-at bs (row (f j)) (width * j + from) width (spelled j (bytes_drop (width * j + from) bs all) long)
 
   -- a series' generations are a table of their own
-  generations-spelled : 80 ≤ length bs → First bs 80 (generationsBytes (generationsFrom bs))
-  unfolding generationsBytes
+  generations-spelled : 80 ≤ length bs → First bs 80 (generations_bytes (generations_from bs))
+  unfolding generations_bytes
   generations-spelled h =
       subst (λ (l : List ℕ). First bs 80 (rows u32 l)) (sym (messages-read bs)) (and-table u32 4 number-width (λ k. u32_at bs (4 * k)) 0 20 [] (omega arith) (none_yet bs) there)
     where
@@ -132,19 +132,19 @@ module _ (bs : List ℕ) (all : AllBytes bs) where
 
 -- The venue -----------------------------------------------------------------------------------
 
-whole : (bs : List ℕ) → AllBytes bs → length bs ≡ venueSize → First bs venueSize (venueBytes (venueFrom bs))
-unfolding venueBytes venueFrom rows_at row_at
+whole : (bs : List ℕ) → AllBytes bs → length bs ≡ venue_size → First bs venue_size (venue_bytes (venue_from bs))
+unfolding venue_bytes venue_from rows_at row_at
 whole bs all size =
-    and_word bs all reachedAt _ (omega arith)
-    (and-table bs all generationsBytes 80 generations-width _ generationsAt 8 _ (omega arith)
-    (and-table bs all ratioBytes 2 ratio-width _ ratiosAt 32 _ (omega arith)
-    (and-table bs all reserveBytes 8 reserve-width _ reservesAt 128 _ (omega arith)
-    (and-table bs all editionBytes 10 edition-width _ editionsAt 32 _ (omega arith)
+    and_word bs all reached_at _ (omega arith)
+    (and-table bs all generations_bytes 80 generations-width _ generations_at 8 _ (omega arith)
+    (and-table bs all ratio_bytes 2 ratio-width _ ratios_at 32 _ (omega arith)
+    (and-table bs all reserve_bytes 8 reserve-width _ reserves_at 128 _ (omega arith)
+    (and-table bs all edition_bytes 10 edition-width _ editions_at 32 _ (omega arith)
     (and_word bs all 2600 _ (omega arith)
-    (and-table bs all listedBytes 9 listed-width _ 2528 8 _ (omega arith)
-    (and-table bs all leggingBytes 12 legging-width _ 2336 16 _ (omega arith)
-    (and-table bs all complexBytes 17 complex-width _ 1792 32 _ (omega arith)
-    (and-table bs all regularBytes 14 regular-width _ 0 128 [] (omega arith) (none_yet bs)
+    (and-table bs all listed_bytes 9 listed-width _ 2528 8 _ (omega arith)
+    (and-table bs all legging_bytes 12 legging-width _ 2336 16 _ (omega arith)
+    (and-table bs all complex_bytes 17 complex-width _ 1792 32 _ (omega arith)
+    (and-table bs all regular_bytes 14 regular-width _ 0 128 [] (omega arith) (none_yet bs)
     (λ j a h. regular-spelled _ a _ h))
     (λ j a h. complex-spelled _ a _ h))
     (λ j a h. legging-spelled _ a h))
@@ -155,7 +155,7 @@ whole bs all size =
     (λ j a h. generations-spelled _ a h))
 
 pub bytes_back : BytesBack
-bytes_back bs all size = let w = whole bs all size in all-at bs (venueBytes (venueFrom bs)) w.at (w.long ∙ sym size)
+bytes_back bs all size = let w = whole bs all size in all-at bs (venue_bytes (venue_from bs)) w.at (w.long ∙ sym size)
 
 pub equal-bytes : EqualBytes
-equal-bytes a b all-a all-b size-a size-b e = sym (bytes_back a all-a size-a) ∙ ap venueBytes e ∙ bytes_back b all-b size-b
+equal-bytes a b all-a all-b size-a size-b e = sym (bytes_back a all-a size-a) ∙ ap venue_bytes e ∙ bytes_back b all-b size-b

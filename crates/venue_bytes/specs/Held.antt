@@ -23,9 +23,9 @@ use Rattle.rules.specs.declared.Edition.{Edition}
 use Rattle.rules.specs.declared.Generations.{Generations}
 use Rattle.rules.specs.declared.Venue.{Venue}
 use Rattle.rules.specs.declared.Message.TheVariants.{Status}
-use Rattle.rules.specs.Words.{noRegular, noComplex, noLegging, notListed, noEdition, noGenerations, closed, freshVenue, withSeries}
+use Rattle.rules.specs.Words.{no_regular, no_complex, no_legging, not_listed, no_edition, no_generations, closed, fresh_venue, with_series}
 use Rattle.rules.specs.Bytes.{u8_at, u32_at, as_signed, u8, u32, i32}
-use Rattle.rules.specs.Messages.{encodeMessage}
+use Rattle.rules.specs.Messages.{encode_message}
 use Rattle.rules.specs.Records.{FourBytes}
 use Rattle.rules.specs.Sound.{sound}
 use Rattle.rules.specs.Calls.{run}
@@ -34,54 +34,54 @@ use Rattle.sets.specs.Promises.{AllBytes}
 use Rattle.rules.specs.Fields.{RegularFits, ComplexFits, LeggingFits, ListedFits, EditionFits, GenerationsFits}
 
 -- where the editions begin
-abbrev pub editionsAt : ℕ
-editionsAt = 2604
+abbrev pub editions_at : ℕ
+editions_at = 2604
 
 -- where the regular orders' reserves begin
-abbrev pub reservesAt : ℕ
-reservesAt = 2924
+abbrev pub reserves_at : ℕ
+reserves_at = 2924
 
 -- where the complex orders' ratios begin
-abbrev pub ratiosAt : ℕ
-ratiosAt = 3948
+abbrev pub ratios_at : ℕ
+ratios_at = 3948
 
 -- where the series' generations begin
-abbrev pub generationsAt : ℕ
-generationsAt = 4012
+abbrev pub generations_at : ℕ
+generations_at = 4012
 
 -- where the last id that a limited sweep looked at stands
-abbrev pub reachedAt : ℕ
-reachedAt = 4652
+abbrev pub reached_at : ℕ
+reached_at = 4652
 
-abbrev pub venueSize : ℕ
-venueSize = 4656
+abbrev pub venue_size : ℕ
+venue_size = 4656
 
 -- Writing -------------------------------------------------------------------------------------
 
 -- a row's bytes
-unfoldable pub regularBytes : Regular → List ℕ
-regularBytes o = u32 o.id ++ u8 o.series ++ u8 o.side ++ u32 o.price ++ u32 o.quantity
+unfoldable pub regular_bytes : Regular → List ℕ
+regular_bytes o = u32 o.id ++ u8 o.series ++ u8 o.side ++ u32 o.price ++ u32 o.quantity
 
 -- what (e) adds to it: what of its quantity it does not show, and what it shows again, "the lesser of its shown quantity and what is left of it"
-unfoldable pub reserveBytes : Regular → List ℕ
-reserveBytes o = u32 o.reserve ++ u32 o.display
+unfoldable pub reserve_bytes : Regular → List ℕ
+reserve_bytes o = u32 o.reserve ++ u32 o.display
 
-unfoldable pub complexBytes : Complex → List ℕ
-complexBytes c =
+unfoldable pub complex_bytes : Complex → List ℕ
+complex_bytes c =
     u32 c.id ++ u8 c.series1 ++ u8 c.side1 ++ u8 c.series2 ++ u8 c.side2 ++ u8 c.class ++ i32 c.limit ++ u32 c.quantity
 
 -- what (g) adds to it: how many contracts of each leg are in a unit
-unfoldable pub ratioBytes : Complex → List ℕ
-ratioBytes c = u8 c.ratio1 ++ u8 c.ratio2
+unfoldable pub ratio_bytes : Complex → List ℕ
+ratio_bytes c = u8 c.ratio1 ++ u8 c.ratio2
 
-unfoldable pub leggingBytes : Legging → List ℕ
-leggingBytes l = u32 l.parent ++ u32 l.price ++ u32 l.quantity
+unfoldable pub legging_bytes : Legging → List ℕ
+legging_bytes l = u32 l.parent ++ u32 l.price ++ u32 l.quantity
 
-unfoldable pub listedBytes : Listed → List ℕ
-listedBytes x = u8 x.status ++ u32 x.bid ++ u32 x.offer
+unfoldable pub listed_bytes : Listed → List ℕ
+listed_bytes x = u8 x.status ++ u32 x.bid ++ u32 x.offer
 
-unfoldable pub editionBytes : Edition → List ℕ
-editionBytes e = u32 e.edition ++ u32 e.message ++ u8 e.figure ++ u8 e.value
+unfoldable pub edition_bytes : Edition → List ℕ
+edition_bytes e = u32 e.edition ++ u32 e.message ++ u8 e.figure ++ u8 e.value
 
 -- a table's: row after row
 unfoldable pub rows : {A : Type 0} → (A → List ℕ) → List A → List ℕ
@@ -89,23 +89,23 @@ rows row [] = []
 rows row (x ∷ xs) = row x ++ rows row xs
 
 -- what (m) adds to a series: the numbers of 20 messages
-abbrev pub messagesOf : Generations → List ℕ
-messagesOf g = upto (λ k. get_or g.messages k 0) 0 20
+abbrev pub messages_of : Generations → List ℕ
+messages_of g = upto (λ k. get_or g.messages k 0) 0 20
 
-unfoldable pub generationsBytes : Generations → List ℕ
-generationsBytes g = rows u32 (messagesOf g)
+unfoldable pub generations_bytes : Generations → List ℕ
+generations_bytes g = rows u32 (messages_of g)
 
-unfoldable pub venueBytes : Venue → List ℕ
-venueBytes v =
-    rows regularBytes v.regular ++ rows complexBytes v.complex ++ rows leggingBytes v.legging ++ rows listedBytes v.series ++ u32 v.last
-    ++ rows editionBytes v.editions ++ rows reserveBytes v.regular ++ rows ratioBytes v.complex ++ rows generationsBytes v.generations
+unfoldable pub venue_bytes : Venue → List ℕ
+venue_bytes v =
+    rows regular_bytes v.regular ++ rows complex_bytes v.complex ++ rows legging_bytes v.legging ++ rows listed_bytes v.series ++ u32 v.last
+    ++ rows edition_bytes v.editions ++ rows reserve_bytes v.regular ++ rows ratio_bytes v.complex ++ rows generations_bytes v.generations
     ++ u32 v.reached
 
 -- Reading -------------------------------------------------------------------------------------
 
 -- the row at the front of bs; an order's two rows, at the front of bs and of rs
-unfoldable pub regularFrom : (bs rs : List ℕ) → Regular
-regularFrom bs rs = record {
+unfoldable pub regular_from : (bs rs : List ℕ) → Regular
+regular_from bs rs = record {
   id = u32_at bs 0;
   series = u8_at bs 4;
   side = u8_at bs 5;
@@ -115,8 +115,8 @@ regularFrom bs rs = record {
   reserve = u32_at rs 0;
 }
 
-unfoldable pub complexFrom : (bs rs : List ℕ) → Complex
-complexFrom bs rs = record {
+unfoldable pub complex_from : (bs rs : List ℕ) → Complex
+complex_from bs rs = record {
   id = u32_at bs 0;
   series1 = u8_at bs 4;
   side1 = u8_at bs 5;
@@ -129,17 +129,17 @@ complexFrom bs rs = record {
   ratio2 = u8_at rs 1;
 }
 
-unfoldable pub leggingFrom : List ℕ → Legging
-leggingFrom bs = record { parent = u32_at bs 0; price = u32_at bs 4; quantity = u32_at bs 8 }
+unfoldable pub legging_from : List ℕ → Legging
+legging_from bs = record { parent = u32_at bs 0; price = u32_at bs 4; quantity = u32_at bs 8 }
 
-unfoldable pub listedFrom : List ℕ → Listed
-listedFrom bs = record { status = u8_at bs 0; bid = u32_at bs 1; offer = u32_at bs 5 }
+unfoldable pub listed_from : List ℕ → Listed
+listed_from bs = record { status = u8_at bs 0; bid = u32_at bs 1; offer = u32_at bs 5 }
 
-unfoldable pub editionFrom : List ℕ → Edition
-editionFrom bs = record { edition = u32_at bs 0; message = u32_at bs 4; figure = u8_at bs 8; value = u8_at bs 9 }
+unfoldable pub edition_from : List ℕ → Edition
+edition_from bs = record { edition = u32_at bs 0; message = u32_at bs 4; figure = u8_at bs 8; value = u8_at bs 9 }
 
-unfoldable pub generationsFrom : List ℕ → Generations
-generationsFrom bs = record { messages = upto (λ k. u32_at bs (4 * k)) 0 20 }
+unfoldable pub generations_from : List ℕ → Generations
+generations_from bs = record { messages = upto (λ k. u32_at bs (4 * k)) 0 20 }
 
 -- row i of a table whose rows are `width` bytes each, from a position on
 unfoldable pub row_at : {A : Type 0} → (List ℕ → A) → (from width : ℕ) → List ℕ → (i : ℕ) → A
@@ -149,16 +149,16 @@ row_at row from width bs i = row (drop (width * i + from) bs)
 unfoldable pub rows_at : {A : Type 0} → (List ℕ → List ℕ → A) → (from width later short : ℕ) → List ℕ → (i : ℕ) → A
 rows_at read from width later short bs i = row_at (row_at read from width bs i) later short bs i
 
-unfoldable pub venueFrom : List ℕ → Venue
-venueFrom bs = record {
-  regular = upto (rows_at regularFrom 0 14 reservesAt 8 bs) 0 128;
-  complex = upto (rows_at complexFrom 1792 17 ratiosAt 2 bs) 0 32;
-  legging = upto (row_at leggingFrom 2336 12 bs) 0 16;
-  series = upto (row_at listedFrom 2528 9 bs) 0 8;
-  editions = upto (row_at editionFrom editionsAt 10 bs) 0 32;
-  generations = upto (row_at generationsFrom generationsAt 80 bs) 0 8;
+unfoldable pub venue_from : List ℕ → Venue
+venue_from bs = record {
+  regular = upto (rows_at regular_from 0 14 reserves_at 8 bs) 0 128;
+  complex = upto (rows_at complex_from 1792 17 ratios_at 2 bs) 0 32;
+  legging = upto (row_at legging_from 2336 12 bs) 0 16;
+  series = upto (row_at listed_from 2528 9 bs) 0 8;
+  editions = upto (row_at edition_from editions_at 10 bs) 0 32;
+  generations = upto (row_at generations_from generations_at 80 bs) 0 8;
   last = u32_at bs 2600;
-  reached = u32_at bs reachedAt;
+  reached = u32_at bs reached_at;
 }
 
 -- What is held is read back -------------------------------------------------------------------
@@ -175,38 +175,38 @@ pub record Sized (v : Venue) : Type 0 where
 -- a venue of the declared type
 pub record Declared (v : Venue) : Type 0 where
   pub sized : Sized v
-  pub regular : (i : ℕ) → RegularFits (get_or v.regular i noRegular)
-  pub complex : (i : ℕ) → ComplexFits (get_or v.complex i noComplex)
-  pub legging : (i : ℕ) → LeggingFits (get_or v.legging i noLegging)
-  pub series : (i : ℕ) → ListedFits (get_or v.series i notListed)
-  pub editions : (i : ℕ) → EditionFits (get_or v.editions i noEdition)
-  pub generations : (i : ℕ) → GenerationsFits (get_or v.generations i noGenerations)
+  pub regular : (i : ℕ) → RegularFits (get_or v.regular i no_regular)
+  pub complex : (i : ℕ) → ComplexFits (get_or v.complex i no_complex)
+  pub legging : (i : ℕ) → LeggingFits (get_or v.legging i no_legging)
+  pub series : (i : ℕ) → ListedFits (get_or v.series i not_listed)
+  pub editions : (i : ℕ) → EditionFits (get_or v.editions i no_edition)
+  pub generations : (i : ℕ) → GenerationsFits (get_or v.generations i no_generations)
   pub last : FourBytes v.last
   pub reached : FourBytes v.reached
 
 abbrev pub HeldWhole : Type 0
-HeldWhole = (v : Venue) → Declared v → venueFrom (venueBytes v) ≡ v
+HeldWhole = (v : Venue) → Declared v → venue_from (venue_bytes v) ≡ v
 
 -- and the bytes that were read are written again, whatever they are: no byte of a venue is left unread, and none is read as two fields
 abbrev pub BytesBack : Type 0
-BytesBack = (bs : List ℕ) → AllBytes bs → length bs ≡ venueSize → venueBytes (venueFrom bs) ≡ bs
+BytesBack = (bs : List ℕ) → AllBytes bs → length bs ≡ venue_size → venue_bytes (venue_from bs) ≡ bs
 
 -- so equal states are equal bytes
 abbrev pub EqualBytes : Type 0
-EqualBytes = (a b : List ℕ) → AllBytes a → AllBytes b → length a ≡ venueSize → length b ≡ venueSize → venueFrom a ≡ venueFrom b → a ≡ b
+EqualBytes = (a b : List ℕ) → AllBytes a → AllBytes b → length a ≡ venue_size → length b ≡ venue_size → venue_from a ≡ venue_from b → a ≡ b
 
 -- Zeros ---------------------------------------------------------------------------------------
 
 -- zeros are not the fresh venue (request (l)), but that venue with all series closed, which is sound
-unfoldable pub zerosVenue : Venue
-zerosVenue = withSeries freshVenue (replicate 8 notListed)
+unfoldable pub zeros_venue : Venue
+zeros_venue = with_series fresh_venue (replicate 8 not_listed)
 
 abbrev pub ZerosHeld : Type 0
-ZerosHeld = (venueFrom (replicate venueSize 0) ≡ zerosVenue) × (sound zerosVenue ≡ true)
+ZerosHeld = (venue_from (replicate venue_size 0) ≡ zeros_venue) × (sound zeros_venue ≡ true)
 
 -- "Hosts that counted on refusal 6 before the opening must send eight closing messages first": these leave the same of a fresh venue
 unfoldable pub closings : List ℕ
-closings = rows (λ s. encodeMessage (Status s closed)) (upto (λ s. s) 0 8)
+closings = rows (λ s. encode_message (Status s closed)) (upto (λ s. s) 0 8)
 
 abbrev pub ClosedFirst : Type 0
-ClosedFirst = (run 96 closings).returned ≡ record { number = 0; done = 8; written = 96; venue = zerosVenue }
+ClosedFirst = (run 96 closings).returned ≡ record { number = 0; done = 8; written = 96; venue = zeros_venue }

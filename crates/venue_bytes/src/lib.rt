@@ -1,8 +1,8 @@
 // Reads a venue from its bytes (specs/Held.antt).
 ghost use Rattle.std.specs.Prelude.{◌≡◌, ◌≤◌, length, get_or};
-ghost use Rattle.rules.specs.Words.{noRegular, noComplex, noLegging, notListed, noEdition, noGenerations};
-ghost use Rattle.venue_bytes.specs.Held.{venueSize};
-ghost use Rattle.venue_bytes.specs.Held.{regularFrom, complexFrom, leggingFrom, listedFrom, editionFrom, generationsFrom, venueFrom};
+ghost use Rattle.rules.specs.Words.{no_regular, no_complex, no_legging, not_listed, no_edition, no_generations};
+ghost use Rattle.venue_bytes.specs.Held.{venue_size};
+ghost use Rattle.venue_bytes.specs.Held.{regular_from, complex_from, legging_from, listed_from, edition_from, generations_from, venue_from};
 ghost use Rattle.venue_bytes.specs.Requirements.{HeldPlace};
 
 use rules::{Complex, Edition, Generations, Legging, Listed, Regular, Venue};
@@ -42,7 +42,7 @@ pub const VENUE_SIZE: usize = REACHED_AT + 4;
 // A regular order, from its row and its reserve's row.
 fn regular_from(row: &[u8], reserve: &[u8]) -> Regular
     requires { (14 ≤ length row.now) × (8 ≤ length reserve.now) }
-    ensures { result ≡ regularFrom row.now reserve.now }
+    ensures { result ≡ regular_from row.now reserve.now }
 {
     Regular {
         id: wire::word_at(row, 0),
@@ -58,7 +58,7 @@ fn regular_from(row: &[u8], reserve: &[u8]) -> Regular
 // A complex order, from its row and its ratios' row.
 fn complex_from(row: &[u8], ratio: &[u8]) -> Complex
     requires { (17 ≤ length row.now) × (2 ≤ length ratio.now) }
-    ensures { result ≡ complexFrom row.now ratio.now }
+    ensures { result ≡ complex_from row.now ratio.now }
 {
     Complex {
         id: wire::word_at(row, 0),
@@ -77,7 +77,7 @@ fn complex_from(row: &[u8], ratio: &[u8]) -> Complex
 // A legging order, from its row.
 fn legging_from(row: &[u8]) -> Legging
     requires { 12 ≤ length row.now }
-    ensures { result ≡ leggingFrom row.now }
+    ensures { result ≡ legging_from row.now }
 {
     Legging {
         parent: wire::word_at(row, 0),
@@ -89,7 +89,7 @@ fn legging_from(row: &[u8]) -> Legging
 // A series' status and away prices, from their row.
 fn listed_from(row: &[u8]) -> Listed
     requires { 9 ≤ length row.now }
-    ensures { result ≡ listedFrom row.now }
+    ensures { result ≡ listed_from row.now }
 {
     Listed {
         status: wire::byte_at(row, 0),
@@ -101,7 +101,7 @@ fn listed_from(row: &[u8]) -> Listed
 // An edition, from its row.
 fn edition_from(row: &[u8]) -> Edition
     requires { 10 ≤ length row.now }
-    ensures { result ≡ editionFrom row.now }
+    ensures { result ≡ edition_from row.now }
 {
     Edition {
         edition: wire::word_at(row, 0),
@@ -114,7 +114,7 @@ fn edition_from(row: &[u8]) -> Edition
 // A series' generations, from their row.
 fn generations_from(row: &[u8]) -> Generations
     requires { 80 ≤ length row.now }
-    ensures { result ≡ generationsFrom row.now }
+    ensures { result ≡ generations_from row.now }
 {
     let mut messages = [0u32; 20];
     let mut k: usize = 0;
@@ -131,7 +131,7 @@ fn generations_from(row: &[u8]) -> Generations
 // What stands at a regular place.
 pub fn regular_at(bytes: &[u8], i: usize) -> Regular
     requires { HeldPlace bytes.now i 128 }
-    ensures { result ≡ get_or (venueFrom bytes.now).regular i noRegular }
+    ensures { result ≡ get_or (venue_from bytes.now).regular i no_regular }
 {
     let at = 14 * i;
     let reserve = 8 * i + RESERVES_AT;
@@ -141,7 +141,7 @@ pub fn regular_at(bytes: &[u8], i: usize) -> Regular
 // What stands at a complex place.
 pub fn complex_at(bytes: &[u8], i: usize) -> Complex
     requires { HeldPlace bytes.now i 32 }
-    ensures { result ≡ get_or (venueFrom bytes.now).complex i noComplex }
+    ensures { result ≡ get_or (venue_from bytes.now).complex i no_complex }
 {
     let at = 17 * i + COMPLEXES_AT;
     let ratio = 2 * i + RATIOS_AT;
@@ -151,7 +151,7 @@ pub fn complex_at(bytes: &[u8], i: usize) -> Complex
 // What stands at a legging place.
 pub fn legging_at(bytes: &[u8], i: usize) -> Legging
     requires { HeldPlace bytes.now i 16 }
-    ensures { result ≡ get_or (venueFrom bytes.now).legging i noLegging }
+    ensures { result ≡ get_or (venue_from bytes.now).legging i no_legging }
 {
     let at = 12 * i + LEGGINGS_AT;
     legging_from(&bytes[at..])
@@ -160,7 +160,7 @@ pub fn legging_at(bytes: &[u8], i: usize) -> Legging
 // A series' status and away prices.
 pub fn listed_at(bytes: &[u8], i: usize) -> Listed
     requires { HeldPlace bytes.now i 8 }
-    ensures { result ≡ get_or (venueFrom bytes.now).series i notListed }
+    ensures { result ≡ get_or (venue_from bytes.now).series i not_listed }
 {
     let at = 9 * i + SERIES_AT;
     listed_from(&bytes[at..])
@@ -169,7 +169,7 @@ pub fn listed_at(bytes: &[u8], i: usize) -> Listed
 // What stands at a place of the editions.
 pub fn edition_at(bytes: &[u8], i: usize) -> Edition
     requires { HeldPlace bytes.now i 32 }
-    ensures { result ≡ get_or (venueFrom bytes.now).editions i noEdition }
+    ensures { result ≡ get_or (venue_from bytes.now).editions i no_edition }
 {
     let at = 10 * i + EDITIONS_AT;
     edition_from(&bytes[at..])
@@ -178,7 +178,7 @@ pub fn edition_at(bytes: &[u8], i: usize) -> Edition
 // A series' generations.
 pub fn generations_at(bytes: &[u8], i: usize) -> Generations
     requires { HeldPlace bytes.now i 8 }
-    ensures { result ≡ get_or (venueFrom bytes.now).generations i noGenerations }
+    ensures { result ≡ get_or (venue_from bytes.now).generations i no_generations }
 {
     let at = 80 * i + GENERATIONS_AT;
     generations_from(&bytes[at..])
@@ -188,8 +188,8 @@ pub fn generations_at(bytes: &[u8], i: usize) -> Generations
 
 // The regular orders that the bytes hold.
 fn regulars_from(bytes: &[u8]) -> [Regular; 128]
-    requires { length bytes.now ≡ venueSize }
-    ensures { result ≡ (venueFrom bytes.now).regular }
+    requires { length bytes.now ≡ venue_size }
+    ensures { result ≡ (venue_from bytes.now).regular }
 {
     let free = rules::NO_REGULAR;
     let mut r = [free; 128];
@@ -204,8 +204,8 @@ fn regulars_from(bytes: &[u8]) -> [Regular; 128]
 
 // The complex orders that the bytes hold.
 fn complexes_from(bytes: &[u8]) -> [Complex; 32]
-    requires { length bytes.now ≡ venueSize }
-    ensures { result ≡ (venueFrom bytes.now).complex }
+    requires { length bytes.now ≡ venue_size }
+    ensures { result ≡ (venue_from bytes.now).complex }
 {
     let free = rules::NO_COMPLEX;
     let mut r = [free; 32];
@@ -220,8 +220,8 @@ fn complexes_from(bytes: &[u8]) -> [Complex; 32]
 
 // The legging orders that the bytes hold.
 fn leggings_from(bytes: &[u8]) -> [Legging; 16]
-    requires { length bytes.now ≡ venueSize }
-    ensures { result ≡ (venueFrom bytes.now).legging }
+    requires { length bytes.now ≡ venue_size }
+    ensures { result ≡ (venue_from bytes.now).legging }
 {
     let free = rules::NO_LEGGING;
     let mut r = [free; 16];
@@ -236,8 +236,8 @@ fn leggings_from(bytes: &[u8]) -> [Legging; 16]
 
 // The status and away prices of every series that the bytes hold.
 fn series_from(bytes: &[u8]) -> [Listed; 8]
-    requires { length bytes.now ≡ venueSize }
-    ensures { result ≡ (venueFrom bytes.now).series }
+    requires { length bytes.now ≡ venue_size }
+    ensures { result ≡ (venue_from bytes.now).series }
 {
     let free = rules::NOT_LISTED;
     let mut r = [free; 8];
@@ -252,8 +252,8 @@ fn series_from(bytes: &[u8]) -> [Listed; 8]
 
 // The editions that the bytes hold.
 fn editions_from(bytes: &[u8]) -> [Edition; 32]
-    requires { length bytes.now ≡ venueSize }
-    ensures { result ≡ (venueFrom bytes.now).editions }
+    requires { length bytes.now ≡ venue_size }
+    ensures { result ≡ (venue_from bytes.now).editions }
 {
     let free = rules::NO_EDITION;
     let mut r = [free; 32];
@@ -268,8 +268,8 @@ fn editions_from(bytes: &[u8]) -> [Edition; 32]
 
 // The generations of every series that the bytes hold.
 fn all_generations_from(bytes: &[u8]) -> [Generations; 8]
-    requires { length bytes.now ≡ venueSize }
-    ensures { result ≡ (venueFrom bytes.now).generations }
+    requires { length bytes.now ≡ venue_size }
+    ensures { result ≡ (venue_from bytes.now).generations }
 {
     let none = rules::NO_GENERATIONS;
     let mut r = [none; 8];
@@ -284,8 +284,8 @@ fn all_generations_from(bytes: &[u8]) -> [Generations; 8]
 
 // The venue that the bytes hold.
 pub fn venue_from(bytes: &[u8]) -> Venue
-    requires { length bytes.now ≡ venueSize }
-    ensures { result ≡ venueFrom bytes.now }
+    requires { length bytes.now ≡ venue_size }
+    ensures { result ≡ venue_from bytes.now }
 {
     let regular = regulars_from(bytes);
     let complex = complexes_from(bytes);

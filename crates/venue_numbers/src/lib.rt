@@ -1,8 +1,8 @@
 // The numbers of a fresh venue (places' specs/Layout.antt); and what the numbers keep beside a venue, computed.
 ghost use Rattle.std.specs.Prelude.{◌≡◌, length};
-ghost use Rattle.rules.specs.Words.{freshVenue};
+ghost use Rattle.rules.specs.Words.{fresh_venue};
 ghost use Rattle.rules.specs.Step.{mask};
-ghost use Rattle.places.specs.Layout.{size, venueOf, bit_of};
+ghost use Rattle.places.specs.Layout.{size, venue_of, bit_of};
 ghost use Rattle.places.specs.Layout.{BesideCounted, Loaded};
 
 use rules::Legging;
@@ -11,7 +11,7 @@ use rules::Legging;
 
 // A fresh venue's numbers: zeros, except that every series is open and the figures are those of edition 0.
 pub fn fresh_numbers() -> [u32; places::SIZE]
-    ensures { Loaded freshVenue result }
+    ensures { Loaded fresh_venue result }
 {
     let mut numbers = [0u32; places::SIZE];
     let mut s: usize = 0;
@@ -38,7 +38,7 @@ fn bit(l: Legging) -> u16
 // Computes the mask of the legging places.
 fn count_mask(numbers: &[u32]) -> u16
     requires { length numbers.now ≡ size }
-    ensures { result ≡ mask (venueOf numbers.now).legging }
+    ensures { result ≡ mask (venue_of numbers.now).legging }
 {
     let mut m: u16 = 0;
     let mut i: usize = 16;

@@ -18,17 +18,17 @@ use Rattle.rules.specs.declared.Listed.{Listed}
 use Rattle.rules.specs.declared.Edition.{Edition}
 use Rattle.rules.specs.declared.Generations.{Generations}
 use Rattle.rules.specs.declared.Venue.{Venue}
-use Rattle.rules.specs.Words.{noRegular, noComplex, noLegging, notListed, noEdition, noGenerations, withLegging, withSeries, withEditions, withGenerations}
-use Rattle.rules.specs.Words.{isSeries, isSide, within}
-use Rattle.rules.specs.Places.{holdsRegular, holdsComplex}
-use Rattle.rules.specs.Refusals.{regularInRange, twoLegInRange, complexInRange}
-use Rattle.rules.specs.Sound.{showsFully}
+use Rattle.rules.specs.Words.{no_regular, no_complex, no_legging, not_listed, no_edition, no_generations, with_legging, with_series, with_editions, with_generations}
+use Rattle.rules.specs.Words.{is_series, is_side, within}
+use Rattle.rules.specs.Places.{holds_regular, holds_complex}
+use Rattle.rules.specs.Refusals.{regular_in_range, two_leg_in_range, complex_in_range}
+use Rattle.rules.specs.Sound.{shows_fully}
 use Rattle.rules.proofs.Tests.{and_l, and_r}
 use Rattle.places.proofs.Orderly.{regular-side}
 use Rattle.places.proofs.Fully.{range-bounded}
-use Rattle.places.specs.Layout.{size, inUse, regularIn, complexIn, listedIn, editionIn, venueOf, regularPut, editionRow, ComplexBounded, SameCounts, Filled, OnSide}
+use Rattle.places.specs.Layout.{size, in_use, regular_in, complex_in, listed_in, edition_in, venue_of, regular_put, edition_row, ComplexBounded, SameCounts, Filled, OnSide}
 use Rattle.places.specs.Layout.{RegularsLoaded, ComplexesLoaded, EditionsLoaded}
-use Rattle.places.specs.Offsets.{regularsUsedAt, complexesUsedAt, editionNumberAt, figuresAt}
+use Rattle.places.specs.Offsets.{regulars_used_at, complexes_used_at, edition_number_at, figures_at}
 use Rattle.places.proofs.Tables.{upto-length, used-length, used-at, used-free, whole}
 use Rattle.places.proofs.Parts.{Outside, OutsideRows, halves, wider, edition-kept, count_kept, count-kept2, regulars-kept, complexes-kept}
 use Rattle.places.proofs.Parts.{leggings-kept, series-kept, generations-kept, last-kept, reached-kept, venue-is}
@@ -37,18 +37,18 @@ use Rattle.places.proofs.Generations.{generations-many}
 use Rattle.place_writes.proofs.Stores.{regular-back, complex-back, edition-back}
 use Rattle.places.proofs.Free.{filled_more}
 use Rattle.place_writes.proofs.Gaps.{Rows, rows-between}
-use Rattle.place_writes.proofs.Closed.{regular-rows, complexPut, OutsideComplexes, complex-rows, regulars-set, complexes-set}
-use Rattle.venue_reader.specs.Checked.{askedRegular, editionsTo}
+use Rattle.place_writes.proofs.Closed.{regular-rows, complex_put, OutsideComplexes, complex-rows, regulars-set, complexes-set}
+use Rattle.venue_reader.specs.Checked.{asked_regular, editions_to}
 
 -- The conditions on an order ------------------------------------------------------------------
 
-pub asked-out : (last : ℕ) (o : Regular) → askedRegular last o ≡ true → (regularInRange o ≡ true) × (showsFully o ≡ true)
+pub asked-out : (last : ℕ) (o : Regular) → asked_regular last o ≡ true → (regular_in_range o ≡ true) × (shows_fully o ≡ true)
 asked-out last o z =
-    let y = and_l (regularInRange o && showsFully o) (leb o.id last) z in
-    (and_l (regularInRange o) (showsFully o) y, and_r (regularInRange o) (showsFully o) y)
+    let y = and_l (regular_in_range o && shows_fully o) (leb o.id last) z in
+    (and_l (regular_in_range o) (shows_fully o) y, and_r (regular_in_range o) (shows_fully o) y)
 
-complex-sides : (c : Complex) → complexInRange c ≡ true → OnSide c.series1 c.side1 × OnSide c.series2 c.side2
-unfolding complexInRange twoLegInRange isSeries isSide within
+complex-sides : (c : Complex) → complex_in_range c ≡ true → OnSide c.series1 c.side1 × OnSide c.series2 c.side2
+unfolding complex_in_range two_leg_in_range is_series is_side within
 complex-sides c z =
     let a = leb-true c.series1 7 (search (and_l, and_r, z) depth 14) in
     let b = leb-true c.side1 1 (search (and_l, and_r, z) depth 14) in
@@ -101,10 +101,10 @@ module _ {A : Type 0} (holds : A → Bool) (none : A) (all : ℕ) (row_in : List
         ]
 
     -- the rest is free
-    pub laid : length l ≡ all → i ≤ all → ((k : ℕ) → i ≤ k → get_or l k none ≡ none) → inUse (row_in b) none i all ≡ l
-    laid n few rest = ext_get_or none (inUse (row_in b) none i all) l (used-length (row_in b) none i all few ∙ sym n) (λ k w. elem k)
+    pub laid : length l ≡ all → i ≤ all → ((k : ℕ) → i ≤ k → get_or l k none ≡ none) → in_use (row_in b) none i all ≡ l
+    laid n few rest = ext_get_or none (in_use (row_in b) none i all) l (used-length (row_in b) none i all few ∙ sym n) (λ k w. elem k)
       where
-        elem : (k : ℕ) → get_or (inUse (row_in b) none i all) k none ≡ get_or l k none
+        elem : (k : ℕ) → get_or (in_use (row_in b) none i all) k none ≡ get_or l k none
         elem k = elim (dec_lt k i) [
           | yes r ↦ used-at (row_in b) none i all k r ∙ m.same k r
           | no r ↦ used-free (row_in b) none i all k (omega arith) ∙ sym (rest k (omega arith))
@@ -127,44 +127,44 @@ pub past_end : {A : Type 0} (none : A) (l : List A) (i : ℕ) → length l ≤ i
 past_end none l i h k le = get_or-eq_default l none {n = k} (omega arith)
 
 abbrev pub LayingRegulars : (a b : List ℕ) (l : List Regular) (i : ℕ) → Type 0
-LayingRegulars = Laying holdsRegular noRegular regularIn OutsideRows
+LayingRegulars = Laying holds_regular no_regular regular_in OutsideRows
 
 pub regulars-first : (a : List ℕ) (l : List Regular) → length a ≡ size → LayingRegulars a a l 0
-regulars-first = laying-first holdsRegular noRegular 128 regularIn regularPut OutsideRows regular-rows
+regulars-first = laying-first holds_regular no_regular 128 regular_in regular_put OutsideRows regular-rows
 
-pub regulars-next : (last : ℕ) (a b b' : List ℕ) (l : List Regular) (i : ℕ) → LayingRegulars a b l i → i < 128 → (o : Regular) → o ≡ get_or l i noRegular →
-    holdsRegular o ≡ true → askedRegular last o ≡ true → b' ≡ regularPut b i o → LayingRegulars a b' l (i + 1)
+pub regulars-next : (last : ℕ) (a b b' : List ℕ) (l : List Regular) (i : ℕ) → LayingRegulars a b l i → i < 128 → (o : Regular) → o ≡ get_or l i no_regular →
+    holds_regular o ≡ true → asked_regular last o ≡ true → b' ≡ regular_put b i o → LayingRegulars a b' l (i + 1)
 regulars-next last a b b' l i m lt o is h asked e =
-    let q = asked-out last (get_or l i noRegular) (rw is at asked) in
-    let side = regular-side (get_or l i noRegular) q.0 in
-    rw (e, is) (laying-next holdsRegular noRegular 128 regularIn regularPut OutsideRows regular-rows a b l i m lt (ap holdsRegular (sym is) ∙ h)
-    (regular-back b i (get_or l i noRegular) m.long lt side.series side.side (range-bounded (get_or l i noRegular) q.0 q.1)))
+    let q = asked-out last (get_or l i no_regular) (rw is at asked) in
+    let side = regular-side (get_or l i no_regular) q.0 in
+    rw (e, is) (laying-next holds_regular no_regular 128 regular_in regular_put OutsideRows regular-rows a b l i m lt (ap holds_regular (sym is) ∙ h)
+    (regular-back b i (get_or l i no_regular) m.long lt side.series side.side (range-bounded (get_or l i no_regular) q.0 q.1)))
 
 pub regulars-last : (a b : List ℕ) (l : List Regular) (i : ℕ) → LayingRegulars a b l i → length l ≡ 128 → i ≤ 128 →
-    ((k : ℕ) → i ≤ k → get_or l k noRegular ≡ noRegular) → RegularsLoaded a l (set b regularsUsedAt i)
+    ((k : ℕ) → i ≤ k → get_or l k no_regular ≡ no_regular) → RegularsLoaded a l (set b regulars_used_at i)
 regulars-last a b l i m n few rest =
     let s = regulars-set a b l i m.long few (halves a b m.before m.long 0 i few m.outside)
-    (laid holdsRegular noRegular 128 regularIn regularPut OutsideRows regular-rows a b l i m n few rest) m.full in
+    (laid holds_regular no_regular 128 regular_in regular_put OutsideRows regular-rows a b l i m n few rest) m.full in
     record { venue = s.venue; complexes = s.complexes; filled = s.filled }
 
 abbrev pub LayingComplexes : (a b : List ℕ) (l : List Complex) (i : ℕ) → Type 0
-LayingComplexes = Laying holdsComplex noComplex complexIn OutsideComplexes
+LayingComplexes = Laying holds_complex no_complex complex_in OutsideComplexes
 
 pub complexes-first : (a : List ℕ) (l : List Complex) → length a ≡ size → LayingComplexes a a l 0
-complexes-first = laying-first holdsComplex noComplex 32 complexIn complexPut OutsideComplexes complex-rows
+complexes-first = laying-first holds_complex no_complex 32 complex_in complex_put OutsideComplexes complex-rows
 
-pub complexes-next : (a b b' : List ℕ) (l : List Complex) (i : ℕ) → LayingComplexes a b l i → i < 32 → (o : Complex) → o ≡ get_or l i noComplex →
-    holdsComplex o ≡ true → complexInRange o ≡ true → ComplexBounded o → b' ≡ complexPut b i o → LayingComplexes a b' l (i + 1)
+pub complexes-next : (a b b' : List ℕ) (l : List Complex) (i : ℕ) → LayingComplexes a b l i → i < 32 → (o : Complex) → o ≡ get_or l i no_complex →
+    holds_complex o ≡ true → complex_in_range o ≡ true → ComplexBounded o → b' ≡ complex_put b i o → LayingComplexes a b' l (i + 1)
 complexes-next a b b' l i m lt o is h ranged kept e =
-    let q = complex-sides (get_or l i noComplex) (rw is at ranged) in
-    rw (e, is) (laying-next holdsComplex noComplex 32 complexIn complexPut OutsideComplexes complex-rows a b l i m lt (ap holdsComplex (sym is) ∙ h)
-    (complex-back b i (get_or l i noComplex) m.long lt q.0.series q.0.side q.1.series q.1.side (rw is at kept)))
+    let q = complex-sides (get_or l i no_complex) (rw is at ranged) in
+    rw (e, is) (laying-next holds_complex no_complex 32 complex_in complex_put OutsideComplexes complex-rows a b l i m lt (ap holds_complex (sym is) ∙ h)
+    (complex-back b i (get_or l i no_complex) m.long lt q.0.series q.0.side q.1.series q.1.side (rw is at kept)))
 
 pub complexes-last : (a b : List ℕ) (l : List Complex) (i : ℕ) → LayingComplexes a b l i → length l ≡ 32 → i ≤ 32 →
-    ((k : ℕ) → i ≤ k → get_or l k noComplex ≡ noComplex) → ComplexesLoaded a l (set b complexesUsedAt i)
+    ((k : ℕ) → i ≤ k → get_or l k no_complex ≡ no_complex) → ComplexesLoaded a l (set b complexes_used_at i)
 complexes-last a b l i m n few rest =
     let s = complexes-set a b l i m.long few (wider (omega arith) (omega arith) m.outside)
-    (laid holdsComplex noComplex 32 complexIn complexPut OutsideComplexes complex-rows a b l i m n few rest) m.full in
+    (laid holds_complex no_complex 32 complex_in complex_put OutsideComplexes complex-rows a b l i m n few rest) m.full in
     record { venue = s.venue; regulars = s.regulars; filled = s.filled }
 
 -- Whole parts, place by place -----------------------------------------------------------------
@@ -172,25 +172,25 @@ complexes-last a b l i m n few rest =
 -- the first i places of one part are l's, and nothing else changed
 pub record Loading {A : Type 0} (With : Venue → List A → Venue) (part : Venue → List A) (a b : List ℕ) (l : List A) (i : ℕ) : Type 0 where
   pub long : length b ≡ size
-  pub others : With (venueOf b) l ≡ With (venueOf a) l
-  pub front : take i (part (venueOf b)) ≡ take i l
+  pub others : With (venue_of b) l ≡ With (venue_of a) l
+  pub front : take i (part (venue_of b)) ≡ take i l
   pub counts : SameCounts a b
 
 module _ {A : Type 0} (With : Venue → List A → Venue) (part : Venue → List A) (none : A) (n : ℕ)
     (again : (v : Venue) (x y : List A) → With (With v x) y ≡ With v y) (got : (v : Venue) (x : List A) → part (With v x) ≡ x)
-    (own : (v : Venue) → With v (part v) ≡ v) (many : (b : List ℕ) → length (part (venueOf b)) ≡ n) (a : List ℕ) (l : List A) where
+    (own : (v : Venue) → With v (part v) ≡ v) (many : (b : List ℕ) → length (part (venue_of b)) ≡ n) (a : List ℕ) (l : List A) where
   pub loading-first : length a ≡ size → Loading With part a a l 0
   loading-first e = record { long = e; others = refl; front = refl; counts = record { regulars = refl; complexes = refl; right = λ h. h } }
 
   pub loading-next : (b b' : List ℕ) (i : ℕ) → Loading With part a b l i → i < n → length l ≡ n → (x : A) → x ≡ get_or l i none → length b' ≡ length b →
-      venueOf b' ≡ With (venueOf b) (set (part (venueOf b)) i x) → SameCounts b b' → Loading With part a b' l (i + 1)
+      venue_of b' ≡ With (venue_of b) (set (part (venue_of b)) i x) → SameCounts b b' → Loading With part a b' l (i + 1)
   loading-next b b' i m lt ln x is e v c = record {
     long = e ∙ m.long;
-    others = ap (λ (w : Venue). With w l) v ∙ again (venueOf b) (set (part (venueOf b)) i x) l ∙ m.others;
+    others = ap (λ (w : Venue). With w l) v ∙ again (venue_of b) (set (part (venue_of b)) i x) l ∙ m.others;
     front =
-        ap (λ (w : Venue). take (i + 1) (part w)) v ∙ ap (take (i + 1)) (got (venueOf b) (set (part (venueOf b)) i x))
-        ∙ ap (λ (k : ℕ). take k (set (part (venueOf b)) i x)) (add-one i)
-        ∙ take-suc-set (part (venueOf b)) i x (omega (arith, many b))
+        ap (λ (w : Venue). take (i + 1) (part w)) v ∙ ap (take (i + 1)) (got (venue_of b) (set (part (venue_of b)) i x))
+        ∙ ap (λ (k : ℕ). take k (set (part (venue_of b)) i x)) (add-one i)
+        ∙ take-suc-set (part (venue_of b)) i x (omega (arith, many b))
         ∙ ap (λ (t : List A). t ++ (x ∷ [])) m.front
         ∙ ap (λ (y : A). take i l ++ (y ∷ [])) is
         ∙ sym (take-suc l i none (omega arith))
@@ -198,143 +198,143 @@ module _ {A : Type 0} (With : Venue → List A → Venue) (part : Venue → List
     counts = record { regulars = c.regulars ∙ m.counts.regulars; complexes = c.complexes ∙ m.counts.complexes; right = λ h. c.right (m.counts.right h) };
   }
 
-  pub loading-last : (b : List ℕ) (i : ℕ) → Loading With part a b l i → n ≤ i → length l ≡ n → venueOf b ≡ With (venueOf a) l
+  pub loading-last : (b : List ℕ) (i : ℕ) → Loading With part a b l i → n ≤ i → length l ≡ n → venue_of b ≡ With (venue_of a) l
   loading-last b i m h ln =
-      sym (own (venueOf b))
-      ∙ ap (With (venueOf b)) (sym (take_all i (part (venueOf b)) (omega (arith, many b))) ∙ m.front ∙ take_all i l (omega arith))
+      sym (own (venue_of b))
+      ∙ ap (With (venue_of b)) (sym (take_all i (part (venue_of b)) (omega (arith, many b))) ∙ m.front ∙ take_all i l (omega arith))
       ∙ m.others
 
 abbrev pub LoadingLeggings : (a b : List ℕ) (l : List Legging) (i : ℕ) → Type 0
-LoadingLeggings = Loading withLegging (λ v. v.legging)
+LoadingLeggings = Loading with_legging (λ v. v.legging)
 
 pub legging-first : (a : List ℕ) (l : List Legging) → length a ≡ size → LoadingLeggings a a l 0
-unfolding withLegging
-legging-first = loading-first withLegging (λ v. v.legging) noLegging 16 (λ v x y. refl) (λ v x. refl) (λ v. refl) legging-many
+unfolding with_legging
+legging-first = loading-first with_legging (λ v. v.legging) no_legging 16 (λ v x y. refl) (λ v x. refl) (λ v. refl) legging-many
 
-pub legging-next : (a : List ℕ) (l : List Legging) (b b' : List ℕ) (i : ℕ) → LoadingLeggings a b l i → i < 16 → length l ≡ 16 → (x : Legging) → x ≡ get_or l i noLegging →
-    length b' ≡ length b → venueOf b' ≡ withLegging (venueOf b) (set (venueOf b).legging i x) → SameCounts b b' → LoadingLeggings a b' l (i + 1)
-unfolding withLegging
-legging-next = loading-next withLegging (λ v. v.legging) noLegging 16 (λ v x y. refl) (λ v x. refl) (λ v. refl) legging-many
+pub legging-next : (a : List ℕ) (l : List Legging) (b b' : List ℕ) (i : ℕ) → LoadingLeggings a b l i → i < 16 → length l ≡ 16 → (x : Legging) → x ≡ get_or l i no_legging →
+    length b' ≡ length b → venue_of b' ≡ with_legging (venue_of b) (set (venue_of b).legging i x) → SameCounts b b' → LoadingLeggings a b' l (i + 1)
+unfolding with_legging
+legging-next = loading-next with_legging (λ v. v.legging) no_legging 16 (λ v x y. refl) (λ v x. refl) (λ v. refl) legging-many
 
-pub legging-last : (a : List ℕ) (l : List Legging) (b : List ℕ) (i : ℕ) → LoadingLeggings a b l i → 16 ≤ i → length l ≡ 16 → venueOf b ≡ withLegging (venueOf a) l
-unfolding withLegging
-legging-last = loading-last withLegging (λ v. v.legging) noLegging 16 (λ v x y. refl) (λ v x. refl) (λ v. refl) legging-many
+pub legging-last : (a : List ℕ) (l : List Legging) (b : List ℕ) (i : ℕ) → LoadingLeggings a b l i → 16 ≤ i → length l ≡ 16 → venue_of b ≡ with_legging (venue_of a) l
+unfolding with_legging
+legging-last = loading-last with_legging (λ v. v.legging) no_legging 16 (λ v x y. refl) (λ v x. refl) (λ v. refl) legging-many
 
 abbrev pub LoadingSeries : (a b : List ℕ) (l : List Listed) (i : ℕ) → Type 0
-LoadingSeries = Loading withSeries (λ v. v.series)
+LoadingSeries = Loading with_series (λ v. v.series)
 
-series-many : (b : List ℕ) → length (venueOf b).series ≡ 8
-unfolding venueOf
-series-many b = upto-length (listedIn b) 0 8
+series-many : (b : List ℕ) → length (venue_of b).series ≡ 8
+unfolding venue_of
+series-many b = upto-length (listed_in b) 0 8
 
 pub series-first : (a : List ℕ) (l : List Listed) → length a ≡ size → LoadingSeries a a l 0
-unfolding withSeries
-series-first = loading-first withSeries (λ v. v.series) notListed 8 (λ v x y. refl) (λ v x. refl) (λ v. refl) series-many
+unfolding with_series
+series-first = loading-first with_series (λ v. v.series) not_listed 8 (λ v x y. refl) (λ v x. refl) (λ v. refl) series-many
 
-pub series-next : (a : List ℕ) (l : List Listed) (b b' : List ℕ) (i : ℕ) → LoadingSeries a b l i → i < 8 → length l ≡ 8 → (x : Listed) → x ≡ get_or l i notListed →
-    length b' ≡ length b → venueOf b' ≡ withSeries (venueOf b) (set (venueOf b).series i x) → SameCounts b b' → LoadingSeries a b' l (i + 1)
-unfolding withSeries
-series-next = loading-next withSeries (λ v. v.series) notListed 8 (λ v x y. refl) (λ v x. refl) (λ v. refl) series-many
+pub series-next : (a : List ℕ) (l : List Listed) (b b' : List ℕ) (i : ℕ) → LoadingSeries a b l i → i < 8 → length l ≡ 8 → (x : Listed) → x ≡ get_or l i not_listed →
+    length b' ≡ length b → venue_of b' ≡ with_series (venue_of b) (set (venue_of b).series i x) → SameCounts b b' → LoadingSeries a b' l (i + 1)
+unfolding with_series
+series-next = loading-next with_series (λ v. v.series) not_listed 8 (λ v x y. refl) (λ v x. refl) (λ v. refl) series-many
 
-pub series-last : (a : List ℕ) (l : List Listed) (b : List ℕ) (i : ℕ) → LoadingSeries a b l i → 8 ≤ i → length l ≡ 8 → venueOf b ≡ withSeries (venueOf a) l
-unfolding withSeries
-series-last = loading-last withSeries (λ v. v.series) notListed 8 (λ v x y. refl) (λ v x. refl) (λ v. refl) series-many
+pub series-last : (a : List ℕ) (l : List Listed) (b : List ℕ) (i : ℕ) → LoadingSeries a b l i → 8 ≤ i → length l ≡ 8 → venue_of b ≡ with_series (venue_of a) l
+unfolding with_series
+series-last = loading-last with_series (λ v. v.series) not_listed 8 (λ v x y. refl) (λ v x. refl) (λ v. refl) series-many
 
 abbrev pub LoadingGenerations : (a b : List ℕ) (l : List Generations) (s : ℕ) → Type 0
-LoadingGenerations = Loading withGenerations (λ v. v.generations)
+LoadingGenerations = Loading with_generations (λ v. v.generations)
 
 pub generations-first : (a : List ℕ) (l : List Generations) → length a ≡ size → LoadingGenerations a a l 0
-unfolding withGenerations
-generations-first = loading-first withGenerations (λ v. v.generations) noGenerations 8 (λ v x y. refl) (λ v x. refl) (λ v. refl) generations-many
+unfolding with_generations
+generations-first = loading-first with_generations (λ v. v.generations) no_generations 8 (λ v x y. refl) (λ v x. refl) (λ v. refl) generations-many
 
-pub generations-next : (a : List ℕ) (l : List Generations) (b b' : List ℕ) (s : ℕ) → LoadingGenerations a b l s → s < 8 → length l ≡ 8 → (x : Generations) → x ≡ get_or l s noGenerations →
-    length b' ≡ length b → venueOf b' ≡ withGenerations (venueOf b) (set (venueOf b).generations s x) → SameCounts b b' → LoadingGenerations a b' l (s + 1)
-unfolding withGenerations
-generations-next = loading-next withGenerations (λ v. v.generations) noGenerations 8 (λ v x y. refl) (λ v x. refl) (λ v. refl) generations-many
+pub generations-next : (a : List ℕ) (l : List Generations) (b b' : List ℕ) (s : ℕ) → LoadingGenerations a b l s → s < 8 → length l ≡ 8 → (x : Generations) → x ≡ get_or l s no_generations →
+    length b' ≡ length b → venue_of b' ≡ with_generations (venue_of b) (set (venue_of b).generations s x) → SameCounts b b' → LoadingGenerations a b' l (s + 1)
+unfolding with_generations
+generations-next = loading-next with_generations (λ v. v.generations) no_generations 8 (λ v x y. refl) (λ v x. refl) (λ v. refl) generations-many
 
-pub generations-last : (a : List ℕ) (l : List Generations) (b : List ℕ) (s : ℕ) → LoadingGenerations a b l s → 8 ≤ s → length l ≡ 8 → venueOf b ≡ withGenerations (venueOf a) l
-unfolding withGenerations
-generations-last = loading-last withGenerations (λ v. v.generations) noGenerations 8 (λ v x y. refl) (λ v x. refl) (λ v. refl) generations-many
+pub generations-last : (a : List ℕ) (l : List Generations) (b : List ℕ) (s : ℕ) → LoadingGenerations a b l s → 8 ≤ s → length l ≡ 8 → venue_of b ≡ with_generations (venue_of a) l
+unfolding with_generations
+generations-last = loading-last with_generations (λ v. v.generations) no_generations 8 (λ v x y. refl) (λ v x. refl) (λ v. refl) generations-many
 
 -- Editions, each of which a place holds as it is -------------------------------------------------
 
-abbrev lowEdition : ℕ → ℕ
-lowEdition i = 4 * i + editionNumberAt
+abbrev low_edition : ℕ → ℕ
+low_edition i = 4 * i + edition_number_at
 
-edition-wide : (i : ℕ) (e : Edition) → 4 * i + editionNumberAt + length (editionRow e) ≡ 4 * (i + 1) + editionNumberAt
-unfolding editionRow
+edition-wide : (i : ℕ) (e : Edition) → 4 * i + edition_number_at + length (edition_row e) ≡ 4 * (i + 1) + edition_number_at
+unfolding edition_row
 edition-wide i e = omega arith
 
-edition-agree : (a b : List ℕ) (l h i : ℕ) → Outside l h a b → (4 * (i + 1) + editionNumberAt ≤ l) ⊎ (h ≤ 4 * i + editionNumberAt) → editionIn a i ≡ editionIn b i
+edition-agree : (a b : List ℕ) (l h i : ℕ) → Outside l h a b → (4 * (i + 1) + edition_number_at ≤ l) ⊎ (h ≤ 4 * i + edition_number_at) → edition_in a i ≡ edition_in b i
 edition-agree a b l h i o (inl w) = edition-kept o i (inl (omega arith))
 edition-agree a b l h i o (inr w) = edition-kept o i (inr w)
 
-abbrev pub editionPut : List ℕ → ℕ → Edition → List ℕ
-editionPut a i e = sets a (4 * i + editionNumberAt) (editionRow e)
+abbrev pub edition_put : List ℕ → ℕ → Edition → List ℕ
+edition_put a i e = sets a (4 * i + edition_number_at) (edition_row e)
 
 abbrev OutsideEditions : (i j : ℕ) (a b : List ℕ) → Type 0
-OutsideEditions i j = Outside (4 * i + editionNumberAt) (4 * j + editionNumberAt)
+OutsideEditions i j = Outside (4 * i + edition_number_at) (4 * j + edition_number_at)
 
-edition-rows : Rows 32 editionIn editionPut OutsideEditions
-edition-rows = rows-between 32 lowEdition editionIn editionRow (λ i j h. omega arith) edition-wide edition-agree
+edition-rows : Rows 32 edition_in edition_put OutsideEditions
+edition-rows = rows-between 32 low_edition edition_in edition_row (λ i j h. omega arith) edition-wide edition-agree
 
 abbrev pub LayingEditions : (a b : List ℕ) (l : List Edition) (i : ℕ) → Type 0
-LayingEditions = Laying (λ _. true) noEdition editionIn OutsideEditions
+LayingEditions = Laying (λ _. true) no_edition edition_in OutsideEditions
 
 pub editions-first : (a : List ℕ) (l : List Edition) → length a ≡ size → LayingEditions a a l 0
-editions-first = laying-first (λ _. true) noEdition 32 editionIn editionPut OutsideEditions edition-rows
+editions-first = laying-first (λ _. true) no_edition 32 edition_in edition_put OutsideEditions edition-rows
 
-pub editions-next : (a b b' : List ℕ) (l : List Edition) (i : ℕ) → LayingEditions a b l i → i < 32 → (e : Edition) → e ≡ get_or l i noEdition →
-    e.figure < 256 → e.value < 256 → b' ≡ editionPut b i e → LayingEditions a b' l (i + 1)
+pub editions-next : (a b b' : List ℕ) (l : List Edition) (i : ℕ) → LayingEditions a b l i → i < 32 → (e : Edition) → e ≡ get_or l i no_edition →
+    e.figure < 256 → e.value < 256 → b' ≡ edition_put b i e → LayingEditions a b' l (i + 1)
 editions-next a b b' l i m lt e is w x q =
-    rw (q, is) (laying-next (λ _. true) noEdition 32 editionIn editionPut OutsideEditions edition-rows a b l i m lt refl
-    (edition-back b i (get_or l i noEdition) m.long lt (rw is at w) (rw is at x)))
+    rw (q, is) (laying-next (λ _. true) no_edition 32 edition_in edition_put OutsideEditions edition-rows a b l i m lt refl
+    (edition-back b i (get_or l i no_edition) m.long lt (rw is at w) (rw is at x)))
 
-editions-part : (b : List ℕ) → (venueOf b).editions ≡ inUse (editionIn b) noEdition 32 32
-unfolding venueOf
-editions-part b = sym (whole (editionIn b) noEdition 32)
+editions-part : (b : List ℕ) → (venue_of b).editions ≡ in_use (edition_in b) no_edition 32 32
+unfolding venue_of
+editions-part b = sym (whole (edition_in b) no_edition 32)
 
 -- what is left as it was
 module _ (a b : List ℕ) (l : List Edition) (i : ℕ) (m : LayingEditions a b l i) (few : i ≤ 32) where
-  beside : Outside editionNumberAt figuresAt a b
+  beside : Outside edition_number_at figures_at a b
   beside = wider (omega arith) (omega arith) m.outside
 
-  others : (x : List Edition) → withEditions (venueOf b) x ≡ withEditions (venueOf a) x
-  unfolding withEditions
-  others x = venue-is (withEditions (venueOf b) x) (withEditions (venueOf a) x)
+  others : (x : List Edition) → with_editions (venue_of b) x ≡ with_editions (venue_of a) x
+  unfolding with_editions
+  others x = venue-is (with_editions (venue_of b) x) (with_editions (venue_of a) x)
       (regulars-kept beside (omega arith) (inr (omega arith)) (inl (omega arith))) (complexes-kept beside (inr (omega arith)) (inl (omega arith)))
       (leggings-kept beside (inr (omega arith))) (series-kept beside (inr (omega arith))) refl (generations-kept beside (inl (omega arith)))
       (last-kept beside (inl (omega arith))) (reached-kept beside (inr (omega arith)))
 
   -- the places from i on become free
-  pub editions-freed : length l ≡ 32 → ((k : ℕ) → i ≤ k → get_or l k noEdition ≡ noEdition) → (c : List ℕ) → EditionsLoaded b (editionsTo i b) c → EditionsLoaded a l c
+  pub editions-freed : length l ≡ 32 → ((k : ℕ) → i ≤ k → get_or l k no_edition ≡ no_edition) → (c : List ℕ) → EditionsLoaded b (editions_to i b) c → EditionsLoaded a l c
   editions-freed n rest c e = record {
-    venue = e.venue ∙ ap (withEditions (venueOf b)) (laid (λ _. true) noEdition 32 editionIn editionPut OutsideEditions edition-rows a b l i m n few rest) ∙ others l;
+    venue = e.venue ∙ ap (with_editions (venue_of b)) (laid (λ _. true) no_edition 32 edition_in edition_put OutsideEditions edition-rows a b l i m n few rest) ∙ others l;
     regulars = e.regulars ∙ count_kept beside (inl (omega arith));
     complexes = e.complexes ∙ count-kept2 beside (inl (omega arith));
   }
 
   pub editions-last : length l ≡ 32 → i ≡ 32 → EditionsLoaded a l b
   editions-last n e = record {
-    venue = own (venueOf b) ∙ ap (withEditions (venueOf b)) part ∙ others l;
+    venue = own (venue_of b) ∙ ap (with_editions (venue_of b)) part ∙ others l;
     regulars = count_kept beside (inl (omega arith));
     complexes = count-kept2 beside (inl (omega arith));
   }
     where
-      own : (v : Venue) → v ≡ withEditions v v.editions
-      own v = unfold withEditions in refl
+      own : (v : Venue) → v ≡ with_editions v v.editions
+      own v = unfold with_editions in refl
 
-      part : (venueOf b).editions ≡ l
-      part = editions-part b ∙ sym (ap (λ (k : ℕ). inUse (editionIn b) noEdition k 32) e)
-          ∙ laid (λ _. true) noEdition 32 editionIn editionPut OutsideEditions edition-rows a b l i m n (omega arith)
-          (past_end noEdition l i (omega arith))
+      part : (venue_of b).editions ≡ l
+      part = editions-part b ∙ sym (ap (λ (k : ℕ). in_use (edition_in b) no_edition k 32) e)
+          ∙ laid (λ _. true) no_edition 32 edition_in edition_put OutsideEditions edition-rows a b l i m n (omega arith)
+          (past_end no_edition l i (omega arith))
 
 -- the first places stay as they are
-pub editions-from : (a : List ℕ) (i : ℕ) → length a ≡ size → LayingEditions a a (editionsTo i a) i
+pub editions-from : (a : List ℕ) (i : ℕ) → length a ≡ size → LayingEditions a a (editions_to i a) i
 editions-from a i e = record {
   before = e;
   long = e;
-  same = λ k w. sym (used-at (editionIn a) noEdition i 32 k w);
+  same = λ k w. sym (used-at (edition_in a) no_edition i 32 k w);
   full = λ k w. refl;
   outside = edition-rows.none 0 i a;
 }

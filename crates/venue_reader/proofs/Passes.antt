@@ -13,13 +13,13 @@ use Rattle.rules.specs.Base.{if◌then◌else◌, all}
 use Rattle.rules.specs.declared.Regular.{Regular}
 use Rattle.rules.specs.declared.Complex.{Complex}
 use Rattle.rules.specs.declared.Edition.{Edition}
-use Rattle.rules.specs.Words.{noEdition, within}
-use Rattle.rules.specs.Settings.{isIncrement, isPercent, isEdition}
-use Rattle.rules.specs.Places.{holdsEdition, blankRegular, blankComplex, blankEdition, arranged}
-use Rattle.rules.specs.Refusals.{regularInRange}
-use Rattle.rules.specs.Sound.{showsFully, figureInRange, editionInRange, unfallen}
+use Rattle.rules.specs.Words.{no_edition, within}
+use Rattle.rules.specs.Settings.{is_increment, is_percent, is_edition}
+use Rattle.rules.specs.Places.{holds_edition, blank_regular, blank_complex, blank_edition, arranged}
+use Rattle.rules.specs.Refusals.{regular_in_range}
+use Rattle.rules.specs.Sound.{shows_fully, figure_in_range, edition_in_range, unfallen}
 use Rattle.rules.proofs.Tests.{and_l, and_r, and_in, and-true, and-false}
-use Rattle.venue_reader.specs.Checked.{editionsFrom, numbersFrom}
+use Rattle.venue_reader.specs.Checked.{editions_from, numbers_from}
 use Rattle.rules.proofs.Ranges.{inside, within-top}
 
 drop-on : {A : Type 0} (l : List A) (d : A) (i : ℕ) (x : A) → i < length l → x ≡ get_or l i d → drop i l ≡ x ∷ drop (i + 1) l
@@ -131,16 +131,16 @@ pub in-range : (a : Bool) (x last : ℕ) → a ≡ true → x ≤ last → (a &&
 in-range a x last h q = rw (h, le-leb x last q)
 
 -- an order in range shows no more than all of it
-pub display-in : (o : Regular) → regularInRange o ≡ true → o.display ≤ o.quantity
-unfolding regularInRange within
+pub display-in : (o : Regular) → regular_in_range o ≡ true → o.display ≤ o.quantity
+unfolding regular_in_range within
 display-in o h = leb-true o.display o.quantity (search (and_l, and_r, h) depth 12)
 
-pub shows-less : (o : Regular) → (o.reserve ≡ o.quantity - o.display → ⊥) → showsFully o ≡ false
-unfolding showsFully
+pub shows-less : (o : Regular) → (o.reserve ≡ o.quantity - o.display → ⊥) → shows_fully o ≡ false
+unfolding shows_fully
 shows-less o h = ne_eqb o.reserve (o.quantity - o.display) h
 
-pub shows-all : (o : Regular) → o.reserve ≡ o.quantity - o.display → showsFully o ≡ true
-unfolding showsFully
+pub shows-all : (o : Regular) → o.reserve ≡ o.quantity - o.display → shows_fully o ≡ true
+unfolding shows_fully
 shows-all o h = eq-eqb o.reserve (o.quantity - o.display) h
 
 -- Editions, arranged in both numbers ----------------------------------------------------------
@@ -150,57 +150,57 @@ and_same true = refl
 and_same false = refl
 
 module _ (l : List Edition) (low past i : ℕ) where
-  pub editions-none : length l ≤ i → true ≡ editionsFrom low past (drop i l)
-  unfolding editionsFrom
-  editions-none le = ap₂ (λ (a b : Bool). a && b) (arranged-none holdsEdition editionInRange blankEdition (λ e. e.edition) noEdition l low i le)
-      (arranged-none holdsEdition (λ _. true) blankEdition (λ e. e.message) noEdition l past i le)
+  pub editions-none : length l ≤ i → true ≡ editions_from low past (drop i l)
+  unfolding editions_from
+  editions-none le = ap₂ (λ (a b : Bool). a && b) (arranged-none holds_edition edition_in_range blank_edition (λ e. e.edition) no_edition l low i le)
+      (arranged-none holds_edition (λ _. true) blank_edition (λ e. e.message) no_edition l past i le)
 
   -- e stands at place i
-  module _ (lt : i < length l) (e : Edition) (is : e ≡ get_or l i noEdition) where
-    pub editions-free : holdsEdition e ≡ false → all blankEdition (drop i l) ≡ editionsFrom low past (drop i l)
-    unfolding editionsFrom
+  module _ (lt : i < length l) (e : Edition) (is : e ≡ get_or l i no_edition) where
+    pub editions-free : holds_edition e ≡ false → all blank_edition (drop i l) ≡ editions_from low past (drop i l)
+    unfolding editions_from
     editions-free h = and_same _ ∙ ap₂ (λ (a b : Bool). a && b)
-        (arranged-free holdsEdition editionInRange blankEdition (λ e. e.edition) noEdition l low i lt e is h)
-        (arranged-free holdsEdition (λ _. true) blankEdition (λ e. e.message) noEdition l past i lt e is h)
+        (arranged-free holds_edition edition_in_range blank_edition (λ e. e.edition) no_edition l low i lt e is h)
+        (arranged-free holds_edition (λ _. true) blank_edition (λ e. e.message) no_edition l past i lt e is h)
 
-    module _ (h : holdsEdition e ≡ true) where
-      pub editions-low : e.edition ≤ low → false ≡ editionsFrom low past (drop i l)
-      unfolding editionsFrom
-      editions-low q = rw (sym (arranged-low holdsEdition editionInRange blankEdition (λ e. e.edition) noEdition l low i lt e is h q))
+    module _ (h : holds_edition e ≡ true) where
+      pub editions-low : e.edition ≤ low → false ≡ editions_from low past (drop i l)
+      unfolding editions_from
+      editions-low q = rw (sym (arranged-low holds_edition edition_in_range blank_edition (λ e. e.edition) no_edition l low i lt e is h q))
 
-      pub editions-late : e.message ≤ past → false ≡ editionsFrom low past (drop i l)
-      unfolding editionsFrom
-      editions-late q = rw (sym (arranged-low holdsEdition (λ _. true) blankEdition (λ e. e.message) noEdition l past i lt e is h q))
-          (sym (and-false (arranged holdsEdition editionInRange blankEdition (λ e. e.edition) low (drop i l))))
+      pub editions-late : e.message ≤ past → false ≡ editions_from low past (drop i l)
+      unfolding editions_from
+      editions-late q = rw (sym (arranged-low holds_edition (λ _. true) blank_edition (λ e. e.message) no_edition l past i lt e is h q))
+          (sym (and-false (arranged holds_edition edition_in_range blank_edition (λ e. e.edition) low (drop i l))))
 
-      pub editions-out : editionInRange e ≡ false → false ≡ editionsFrom low past (drop i l)
-      unfolding editionsFrom
-      editions-out q = rw (sym (arranged-out-of holdsEdition editionInRange blankEdition (λ e. e.edition) noEdition l low i lt e is h q))
+      pub editions-out : edition_in_range e ≡ false → false ≡ editions_from low past (drop i l)
+      unfolding editions_from
+      editions-out q = rw (sym (arranged-out-of holds_edition edition_in_range blank_edition (λ e. e.edition) no_edition l low i lt e is h q))
 
-      pub editions-past : low < e.edition → past < e.message → editionInRange e ≡ true →
-          editionsFrom e.edition e.message (drop (i + 1) l) ≡ editionsFrom low past (drop i l)
-      unfolding editionsFrom
+      pub editions-past : low < e.edition → past < e.message → edition_in_range e ≡ true →
+          editions_from e.edition e.message (drop (i + 1) l) ≡ editions_from low past (drop i l)
+      unfolding editions_from
       editions-past q k a = ap₂ (λ (a b : Bool). a && b)
-          (arranged-past holdsEdition editionInRange blankEdition (λ e. e.edition) noEdition l low i lt e is h q a)
-          (arranged-past holdsEdition (λ _. true) blankEdition (λ e. e.message) noEdition l past i lt e is h k refl)
+          (arranged-past holds_edition edition_in_range blank_edition (λ e. e.edition) no_edition l low i lt e is h q a)
+          (arranged-past holds_edition (λ _. true) blank_edition (λ e. e.message) no_edition l past i lt e is h k refl)
 
 -- the figure that it sets
 module _ (e : Edition) where
-  pub figure-increment : e.figure ≤ 7 → isIncrement e.value ≡ figureInRange e
-  unfolding figureInRange
+  pub figure-increment : e.figure ≤ 7 → is_increment e.value ≡ figure_in_range e
+  unfolding figure_in_range
   figure-increment h = rw (le-leb e.figure 7 h)
 
-  pub figure-none : 7 < e.figure → (e.figure ≡ 8 → ⊥) → false ≡ figureInRange e
-  unfolding figureInRange
+  pub figure-none : 7 < e.figure → (e.figure ≡ 8 → ⊥) → false ≡ figure_in_range e
+  unfolding figure_in_range
   figure-none h q = rw (lt-leb e.figure 7 h, ne_eqb e.figure 8 q)
 
-  pub figure-percent : e.figure ≡ 8 → leb e.value 50 ≡ figureInRange e
-  unfolding figureInRange isPercent
+  pub figure-percent : e.figure ≡ 8 → leb e.value 50 ≡ figure_in_range e
+  unfolding figure_in_range is_percent
   figure-percent h = rw h (within-top 0 50 e.value (omega arith))
 
 -- its numbers are in range
-pub edition-range : (e : Edition) → e.edition ≤ 4294967295 → e.message ≤ 4294967295 → figureInRange e ≡ editionInRange e
-unfolding editionInRange isEdition
+pub edition-range : (e : Edition) → e.edition ≤ 4294967295 → e.message ≤ 4294967295 → figure_in_range e ≡ edition_in_range e
+unfolding edition_in_range is_edition
 edition-range e a b = rw (inside 0 4294967295 e.edition (omega arith) a, le-leb e.message 4294967295 b) (sym (and-true _ ∙ and-true _))
 
 -- Generations: numbers that do not fall -------------------------------------------------------
@@ -212,20 +212,20 @@ swapped true false false d = refl
 swapped false b c d = refl
 
 module _ (l : List ℕ) (low i : ℕ) where
-  pub numbers-none : length l ≤ i → true ≡ numbersFrom low (drop i l)
-  unfolding numbersFrom unfallen all
-  numbers-none le = sym (ap (numbersFrom low) (drop_of_length-le l {i = i} le))
+  pub numbers-none : length l ≤ i → true ≡ numbers_from low (drop i l)
+  unfolding numbers_from unfallen all
+  numbers-none le = sym (ap (numbers_from low) (drop_of_length-le l {i = i} le))
 
   module _ (lt : i < length l) where
-    numbers_on : numbersFrom low (drop i l) ≡ ((leb low (get_or l i 0) && leb (get_or l i 0) 4294967295) && numbersFrom (get_or l i 0) (drop (i + 1) l))
-    unfolding numbersFrom unfallen all
-    numbers_on = ap (numbersFrom low) (drop-on l 0 i (get_or l i 0) lt refl) ∙ swapped (leb low (get_or l i 0)) (unfallen (get_or l i 0) (drop (i + 1) l))
+    numbers_on : numbers_from low (drop i l) ≡ ((leb low (get_or l i 0) && leb (get_or l i 0) 4294967295) && numbers_from (get_or l i 0) (drop (i + 1) l))
+    unfolding numbers_from unfallen all
+    numbers_on = ap (numbers_from low) (drop-on l 0 i (get_or l i 0) lt refl) ∙ swapped (leb low (get_or l i 0)) (unfallen (get_or l i 0) (drop (i + 1) l))
         (leb (get_or l i 0) 4294967295) (all (λ n. leb n 4294967295) (drop (i + 1) l))
 
-    pub numbers-fall : (leb low (get_or l i 0) && leb (get_or l i 0) 4294967295) ≡ false → false ≡ numbersFrom low (drop i l)
+    pub numbers-fall : (leb low (get_or l i 0) && leb (get_or l i 0) 4294967295) ≡ false → false ≡ numbers_from low (drop i l)
     numbers-fall h = sym (numbers_on ∙ rw h)
 
-    pub numbers-past : (leb low (get_or l i 0) && leb (get_or l i 0) 4294967295) ≡ true → numbersFrom (get_or l i 0) (drop (i + 1) l) ≡ numbersFrom low (drop i l)
+    pub numbers-past : (leb low (get_or l i 0) && leb (get_or l i 0) 4294967295) ≡ true → numbers_from (get_or l i 0) (drop (i + 1) l) ≡ numbers_from low (drop i l)
     numbers-past h = sym (numbers_on ∙ rw h)
 
 pub and_assoc : (a b c d : Bool) → (a && b && c && d) ≡ (a && (b && c && d))

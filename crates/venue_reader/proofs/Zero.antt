@@ -16,13 +16,13 @@ use Rattle.rules.specs.declared.Regular.{Regular}
 use Rattle.rules.specs.declared.Complex.{Complex}
 use Rattle.rules.specs.declared.Edition.{Edition}
 use Rattle.rules.specs.Base.{if◌then◌else◌, all}
-use Rattle.rules.specs.Bytes.{u8_at, u16At, u32_at, as_signed}
-use Rattle.rules.specs.Places.{blankRegular, blankComplex, blankEdition}
+use Rattle.rules.specs.Bytes.{u8_at, u16_at, u32_at, as_signed}
+use Rattle.rules.specs.Places.{blank_regular, blank_complex, blank_edition}
 use Rattle.rules.proofs.Tests.{and_l, and_r, and_in, and-true, and-false}
 use Rattle.places.specs.Layout.{upto}
 use Rattle.levels.proofs.Scans.{upto-on, upto-end}
-use Rattle.venue_bytes.specs.Held.{editionsAt, reservesAt, ratiosAt, generationsAt, regularFrom, complexFrom, editionFrom, row_at, rows_at, venueFrom}
-use Rattle.venue_reader.specs.Checked.{zeroBytes}
+use Rattle.venue_bytes.specs.Held.{editions_at, reserves_at, ratios_at, generations_at, regular_from, complex_from, edition_from, row_at, rows_at, venue_from}
+use Rattle.venue_reader.specs.Checked.{zero_bytes}
 use Rattle.venue_reader.proofs.Passes.{swapped}
 
 -- A pass over bytes ---------------------------------------------------------------------------
@@ -40,28 +40,28 @@ or-none a b = go (eqb a 0) (eqb b 0) refl refl
         ne_eqb (bit_or a b) 0 (λ e. x (omega (arith, or_add_and a b, and_le_r a b)))
 
 -- so many bytes from a position on are zero
-abbrev pub zerosFrom : List ℕ → (from many : ℕ) → Bool
-zerosFrom bs from many = all (λ x. eqb x 0) (upto (λ k. get_or bs k 0) from many)
+abbrev pub zeros_from : List ℕ → (from many : ℕ) → Bool
+zeros_from bs from many = all (λ x. eqb x 0) (upto (λ k. get_or bs k 0) from many)
 
 -- the bytes read so far had these bits, and those left decide
-pub zeros-first : (bs : List ℕ) (from to : ℕ) → (eqb 0 0 && zerosFrom bs from (to - from)) ≡ zeroBytes bs from to
-unfolding zeroBytes
+pub zeros-first : (bs : List ℕ) (from to : ℕ) → (eqb 0 0 && zeros_from bs from (to - from)) ≡ zero_bytes bs from to
+unfolding zero_bytes
 zeros-first bs from to = refl
 
 pub zeros-next : (bs : List ℕ) (bits k to : ℕ) (x : ℕ) → k < to → x ≡ get_or bs k 0 →
-    (eqb (bit_or bits x) 0 && zerosFrom bs (k + 1) (to - (k + 1))) ≡ (eqb bits 0 && zerosFrom bs k (to - k))
+    (eqb (bit_or bits x) 0 && zeros_from bs (k + 1) (to - (k + 1))) ≡ (eqb bits 0 && zeros_from bs k (to - k))
 unfolding all
 zeros-next bs bits k to x lt is =
-    ap (λ (t : Bool). t && zerosFrom bs (k + 1) (to - (k + 1))) (or-none bits x)
-    ∙ three (eqb bits 0) (eqb x 0) (zerosFrom bs (k + 1) (to - (k + 1)))
-    ∙ ap (λ (y : ℕ). eqb bits 0 && (eqb y 0 && zerosFrom bs (k + 1) (to - (k + 1)))) is
+    ap (λ (t : Bool). t && zeros_from bs (k + 1) (to - (k + 1))) (or-none bits x)
+    ∙ three (eqb bits 0) (eqb x 0) (zeros_from bs (k + 1) (to - (k + 1)))
+    ∙ ap (λ (y : ℕ). eqb bits 0 && (eqb y 0 && zeros_from bs (k + 1) (to - (k + 1)))) is
     ∙ ap (λ (l : List ℕ). eqb bits 0 && all (λ y. eqb y 0) l) (sym (upto-on (λ j. get_or bs j 0) k to lt))
   where
     three : (a b c : Bool) → (a && b && c) ≡ (a && (b && c))
     three true b c = refl
     three false b c = refl
 
-pub zeros-last : (bs : List ℕ) (bits k to : ℕ) → to ≤ k → eqb bits 0 ≡ (eqb bits 0 && zerosFrom bs k (to - k))
+pub zeros-last : (bs : List ℕ) (bits k to : ℕ) → to ≤ k → eqb bits 0 ≡ (eqb bits 0 && zeros_from bs k (to - k))
 unfolding all
 zeros-last bs bits k to h = sym (ap (λ (l : List ℕ). eqb bits 0 && all (λ y. eqb y 0) l) (upto-end (λ j. get_or bs j 0) k to h) ∙ and-true (eqb bits 0))
 
@@ -72,17 +72,17 @@ three true b c = refl
 three false b c = refl
 
 -- bytes in two parts, the second from b on
-zeros-split : (bs : List ℕ) (a b k m : ℕ) → b ≡ a + k → zerosFrom bs a (k + m) ≡ (zerosFrom bs a k && zerosFrom bs b m)
+zeros-split : (bs : List ℕ) (a b k m : ℕ) → b ≡ a + k → zeros_from bs a (k + m) ≡ (zeros_from bs a k && zeros_from bs b m)
 unfolding upto all
 zeros-split bs a b zero m e =
     let z : 0 + m ≡ m = omega arith in
     let y : a ≡ b = omega arith in
-    ap (zerosFrom bs a) z ∙ ap (λ (j : ℕ). zerosFrom bs j m) y
+    ap (zeros_from bs a) z ∙ ap (λ (j : ℕ). zeros_from bs j m) y
 zeros-split bs a b (suc k) m e =
     let z : suc k + m ≡ suc (k + m) = omega arith in
-    ap (zerosFrom bs a) z
+    ap (zeros_from bs a) z
     ∙ ap (λ (t : Bool). eqb (get_or bs a 0) 0 && t) (zeros-split bs (suc a) b k m (omega arith))
-    ∙ sym (three (eqb (get_or bs a 0) 0) (zerosFrom bs (suc a) k) (zerosFrom bs b m))
+    ∙ sym (three (eqb (get_or bs a 0) 0) (zeros_from bs (suc a) k) (zeros_from bs b m))
 
 -- a number of four bytes is zero where they are
 sum-zero : (a b c d : ℕ) → eqb (a + 256 * b + 65536 * (c + 256 * d)) 0 ≡ (eqb a 0 && (eqb b 0 && (eqb c 0 && (eqb d 0 && true))))
@@ -105,12 +105,12 @@ module _ (bs : List ℕ) (n : ℕ) where
   pick : (j q : ℕ) → n + j ≡ q → get_or (drop n bs) j 0 ≡ get_or bs q 0
   pick j q e = get_or-drop n bs j 0 ∙ ap (λ (x : ℕ). get_or bs x 0) e
 
-  byte-zero : (k at : ℕ) → at ≡ n + k → eqb (u8_at (drop n bs) k) 0 ≡ zerosFrom bs at 1
+  byte-zero : (k at : ℕ) → at ≡ n + k → eqb (u8_at (drop n bs) k) 0 ≡ zeros_from bs at 1
   unfolding u8_at upto all
   byte-zero k at e = ap (λ (x : ℕ). eqb x 0) (pick k at (sym e)) ∙ sym (and-true (eqb (get_or bs at 0) 0))
 
-  word-zero : (k at : ℕ) → at ≡ n + k → eqb (u32_at (drop n bs) k) 0 ≡ zerosFrom bs at 4
-  unfolding u8_at u16At u32_at upto all
+  word-zero : (k at : ℕ) → at ≡ n + k → eqb (u32_at (drop n bs) k) 0 ≡ zeros_from bs at 4
+  unfolding u8_at u16_at u32_at upto all
   word-zero k at e =
       rw (pick k at (sym e), pick (k + 1) (suc at) (omega arith), pick (k + 2) (suc (suc at)) (omega arith), pick (k + 2 + 1) (suc (suc (suc at))) (omega arith))
       (sum-zero (get_or bs at 0) (get_or bs (suc at) 0) (get_or bs (suc (suc at)) 0) (get_or bs (suc (suc (suc at))) 0))
@@ -125,8 +125,8 @@ limit-zero x = go (ltb x 2147483648) refl
     go false h = let z = ltb-false x 2147483648 h in ne_eqb (suc (4294967295 - x)) 0 (λ e. omega arith) ∙ sym (ne_eqb x 0 (λ e. omega arith))
 
 -- the rows of the two tables of regular orders
-regular-zero : (bs : List ℕ) (i : ℕ) → blankRegular (rows_at regularFrom 0 14 reservesAt 8 bs i) ≡ (zerosFrom bs (14 * i + 0) 14 && zerosFrom bs (8 * i + reservesAt) 8)
-unfolding blankRegular regularFrom row_at rows_at
+regular-zero : (bs : List ℕ) (i : ℕ) → blank_regular (rows_at regular_from 0 14 reserves_at 8 bs i) ≡ (zeros_from bs (14 * i + 0) 14 && zeros_from bs (8 * i + reserves_at) 8)
+unfolding blank_regular regular_from row_at rows_at
 regular-zero bs i =
     rw (
       word-zero bs n 0 n (omega arith),
@@ -137,14 +137,14 @@ regular-zero bs i =
       word-zero bs m 4 (m + 4) refl,
       word-zero bs m 0 m (omega arith),
     )
-    (order (zerosFrom bs n 4) (zerosFrom bs (n + 4) 1) (zerosFrom bs (n + 5) 1) (zerosFrom bs (n + 6) 4) (zerosFrom bs (n + 10) 4) (zerosFrom bs (m + 4) 4) (zerosFrom bs m 4)
+    (order (zeros_from bs n 4) (zeros_from bs (n + 4) 1) (zeros_from bs (n + 5) 1) (zeros_from bs (n + 6) 4) (zeros_from bs (n + 10) 4) (zeros_from bs (m + 4) 4) (zeros_from bs m 4)
     ∙ sym (ap₂ (λ (a b : Bool). a && b) row (zeros-split bs m (m + 4) 4 4 refl)))
   where
     n : ℕ
     n = 14 * i + 0
 
     m : ℕ
-    m = 8 * i + reservesAt
+    m = 8 * i + reserves_at
 
     order : (a b c d e f g : Bool) → (a && b && c && d && e && f && g) ≡ ((a && (b && (c && (d && e)))) && (g && f))
     order true true true true true true true = refl
@@ -157,15 +157,15 @@ regular-zero bs i =
     order true false c d e f g = refl
     order false b c d e f g = refl
 
-    row : zerosFrom bs n 14 ≡ (zerosFrom bs n 4 && (zerosFrom bs (n + 4) 1 && (zerosFrom bs (n + 5) 1 && (zerosFrom bs (n + 6) 4 && zerosFrom bs (n + 10) 4))))
+    row : zeros_from bs n 14 ≡ (zeros_from bs n 4 && (zeros_from bs (n + 4) 1 && (zeros_from bs (n + 5) 1 && (zeros_from bs (n + 6) 4 && zeros_from bs (n + 10) 4))))
     row = zeros-split bs n (n + 4) 4 10 refl
-        ∙ ap (λ (t : Bool). zerosFrom bs n 4 && t) (zeros-split bs (n + 4) (n + 5) 1 9 (omega arith)
-        ∙ ap (λ (t : Bool). zerosFrom bs (n + 4) 1 && t) (zeros-split bs (n + 5) (n + 6) 1 8 (omega arith)
-        ∙ ap (λ (t : Bool). zerosFrom bs (n + 5) 1 && t) (zeros-split bs (n + 6) (n + 10) 4 4 (omega arith))))
+        ∙ ap (λ (t : Bool). zeros_from bs n 4 && t) (zeros-split bs (n + 4) (n + 5) 1 9 (omega arith)
+        ∙ ap (λ (t : Bool). zeros_from bs (n + 4) 1 && t) (zeros-split bs (n + 5) (n + 6) 1 8 (omega arith)
+        ∙ ap (λ (t : Bool). zeros_from bs (n + 5) 1 && t) (zeros-split bs (n + 6) (n + 10) 4 4 (omega arith))))
 
 -- those of the two tables of complex orders
-complex-zero : (bs : List ℕ) (i : ℕ) → blankComplex (rows_at complexFrom 1792 17 ratiosAt 2 bs i) ≡ (zerosFrom bs (17 * i + 1792) 17 && zerosFrom bs (2 * i + ratiosAt) 2)
-unfolding blankComplex complexFrom row_at rows_at
+complex-zero : (bs : List ℕ) (i : ℕ) → blank_complex (rows_at complex_from 1792 17 ratios_at 2 bs i) ≡ (zeros_from bs (17 * i + 1792) 17 && zeros_from bs (2 * i + ratios_at) 2)
+unfolding blank_complex complex_from row_at rows_at
 complex-zero bs i =
     rw (
       limit-zero (u32_at (drop n bs) 9),
@@ -180,15 +180,15 @@ complex-zero bs i =
       byte-zero bs m 0 m (omega arith),
       byte-zero bs m 1 (m + 1) refl,
     )
-    (order (zerosFrom bs n 4) (zerosFrom bs (n + 4) 1) (zerosFrom bs (n + 5) 1) (zerosFrom bs (n + 6) 1) (zerosFrom bs (n + 7) 1) (zerosFrom bs (n + 8) 1)
-    (zerosFrom bs (n + 9) 4) (zerosFrom bs (n + 13) 4) (zerosFrom bs m 1) (zerosFrom bs (m + 1) 1)
+    (order (zeros_from bs n 4) (zeros_from bs (n + 4) 1) (zeros_from bs (n + 5) 1) (zeros_from bs (n + 6) 1) (zeros_from bs (n + 7) 1) (zeros_from bs (n + 8) 1)
+    (zeros_from bs (n + 9) 4) (zeros_from bs (n + 13) 4) (zeros_from bs m 1) (zeros_from bs (m + 1) 1)
     ∙ sym (ap₂ (λ (a b : Bool). a && b) row (zeros-split bs m (m + 1) 1 1 refl)))
   where
     n : ℕ
     n = 17 * i + 1792
 
     m : ℕ
-    m = 2 * i + ratiosAt
+    m = 2 * i + ratios_at
 
     order : (a b c d e f g h i j : Bool) → (a && b && c && d && e && f && g && h && i && j) ≡ ((a && (b && (c && (d && (e && (f && (g && h))))))) && (i && j))
     order true true true true true true true true i j = refl
@@ -201,36 +201,36 @@ complex-zero bs i =
     order true false c d e f g h i j = refl
     order false b c d e f g h i j = refl
 
-    row : zerosFrom bs n 17 ≡
-        (zerosFrom bs n 4 && (zerosFrom bs (n + 4) 1 && (zerosFrom bs (n + 5) 1 && (zerosFrom bs (n + 6) 1 && (zerosFrom bs (n + 7) 1 && (zerosFrom bs (n + 8) 1
-        && (zerosFrom bs (n + 9) 4 && zerosFrom bs (n + 13) 4)))))))
+    row : zeros_from bs n 17 ≡
+        (zeros_from bs n 4 && (zeros_from bs (n + 4) 1 && (zeros_from bs (n + 5) 1 && (zeros_from bs (n + 6) 1 && (zeros_from bs (n + 7) 1 && (zeros_from bs (n + 8) 1
+        && (zeros_from bs (n + 9) 4 && zeros_from bs (n + 13) 4)))))))
     row = zeros-split bs n (n + 4) 4 13 refl
-        ∙ ap (λ (t : Bool). zerosFrom bs n 4 && t) (zeros-split bs (n + 4) (n + 5) 1 12 (omega arith)
-        ∙ ap (λ (t : Bool). zerosFrom bs (n + 4) 1 && t) (zeros-split bs (n + 5) (n + 6) 1 11 (omega arith)
-        ∙ ap (λ (t : Bool). zerosFrom bs (n + 5) 1 && t) (zeros-split bs (n + 6) (n + 7) 1 10 (omega arith)
-        ∙ ap (λ (t : Bool). zerosFrom bs (n + 6) 1 && t) (zeros-split bs (n + 7) (n + 8) 1 9 (omega arith)
-        ∙ ap (λ (t : Bool). zerosFrom bs (n + 7) 1 && t) (zeros-split bs (n + 8) (n + 9) 1 8 (omega arith)
-        ∙ ap (λ (t : Bool). zerosFrom bs (n + 8) 1 && t) (zeros-split bs (n + 9) (n + 13) 4 4 (omega arith)))))))
+        ∙ ap (λ (t : Bool). zeros_from bs n 4 && t) (zeros-split bs (n + 4) (n + 5) 1 12 (omega arith)
+        ∙ ap (λ (t : Bool). zeros_from bs (n + 4) 1 && t) (zeros-split bs (n + 5) (n + 6) 1 11 (omega arith)
+        ∙ ap (λ (t : Bool). zeros_from bs (n + 5) 1 && t) (zeros-split bs (n + 6) (n + 7) 1 10 (omega arith)
+        ∙ ap (λ (t : Bool). zeros_from bs (n + 6) 1 && t) (zeros-split bs (n + 7) (n + 8) 1 9 (omega arith)
+        ∙ ap (λ (t : Bool). zeros_from bs (n + 7) 1 && t) (zeros-split bs (n + 8) (n + 9) 1 8 (omega arith)
+        ∙ ap (λ (t : Bool). zeros_from bs (n + 8) 1 && t) (zeros-split bs (n + 9) (n + 13) 4 4 (omega arith)))))))
 
 -- and those of the editions
-edition-zero : (bs : List ℕ) (i : ℕ) → blankEdition (row_at editionFrom editionsAt 10 bs i) ≡ zerosFrom bs (10 * i + editionsAt) 10
-unfolding blankEdition editionFrom row_at
+edition-zero : (bs : List ℕ) (i : ℕ) → blank_edition (row_at edition_from editions_at 10 bs i) ≡ zeros_from bs (10 * i + editions_at) 10
+unfolding blank_edition edition_from row_at
 edition-zero bs i =
     rw (word-zero bs n 0 n (omega arith), word-zero bs n 4 (n + 4) refl, byte-zero bs n 8 (n + 8) refl, byte-zero bs n 9 (n + 9) refl)
-    (order (zerosFrom bs n 4) (zerosFrom bs (n + 4) 4) (zerosFrom bs (n + 8) 1) (zerosFrom bs (n + 9) 1) ∙ sym row)
+    (order (zeros_from bs n 4) (zeros_from bs (n + 4) 4) (zeros_from bs (n + 8) 1) (zeros_from bs (n + 9) 1) ∙ sym row)
   where
     n : ℕ
-    n = 10 * i + editionsAt
+    n = 10 * i + editions_at
 
     order : (a b c d : Bool) → (a && b && c && d) ≡ (a && (b && (c && d)))
     order true true c d = refl
     order true false c d = refl
     order false b c d = refl
 
-    row : zerosFrom bs n 10 ≡ (zerosFrom bs n 4 && (zerosFrom bs (n + 4) 4 && (zerosFrom bs (n + 8) 1 && zerosFrom bs (n + 9) 1)))
+    row : zeros_from bs n 10 ≡ (zeros_from bs n 4 && (zeros_from bs (n + 4) 4 && (zeros_from bs (n + 8) 1 && zeros_from bs (n + 9) 1)))
     row = zeros-split bs n (n + 4) 4 6 refl
-        ∙ ap (λ (t : Bool). zerosFrom bs n 4 && t) (zeros-split bs (n + 4) (n + 8) 4 2 (omega arith)
-        ∙ ap (λ (t : Bool). zerosFrom bs (n + 4) 4 && t) (zeros-split bs (n + 8) (n + 9) 1 1 (omega arith)))
+        ∙ ap (λ (t : Bool). zeros_from bs n 4 && t) (zeros-split bs (n + 4) (n + 8) 4 2 (omega arith)
+        ∙ ap (λ (t : Bool). zeros_from bs (n + 4) 4 && t) (zeros-split bs (n + 8) (n + 9) 1 1 (omega arith)))
 
 -- Tables --------------------------------------------------------------------------------------
 
@@ -259,49 +259,49 @@ all_both f g [] = refl
 all_both f g (j ∷ l) = ap (λ (t : Bool). (f j && g j) && t) (all_both f g l) ∙ swapped (f j) (g j) (all f l) (all g l)
 
 -- rows of one width, one after another
-rows-zero : (bs : List ℕ) (from width i m : ℕ) → all (λ j. zerosFrom bs (width * j + from) width) (upto (λ j. j) i m) ≡ zerosFrom bs (width * i + from) (width * m)
+rows-zero : (bs : List ℕ) (from width i m : ℕ) → all (λ j. zeros_from bs (width * j + from) width) (upto (λ j. j) i m) ≡ zeros_from bs (width * i + from) (width * m)
 unfolding upto all
-rows-zero bs from width i zero = let e : 0 ≡ width * 0 = sym (mul-zero width) in ap (zerosFrom bs (width * i + from)) e
+rows-zero bs from width i zero = let e : 0 ≡ width * 0 = sym (mul-zero width) in ap (zeros_from bs (width * i + from)) e
 rows-zero bs from width i (suc m) =
     let e : width + width * m ≡ width * suc m = omega (arith, mul-suc width m) in
-    ap (λ (t : Bool). zerosFrom bs (width * i + from) width && t) (rows-zero bs from width (suc i) m)
+    ap (λ (t : Bool). zeros_from bs (width * i + from) width && t) (rows-zero bs from width (suc i) m)
     ∙ sym (zeros-split bs (width * i + from) (width * suc i + from) width (width * m) (omega (arith, mul-suc width i)))
-    ∙ ap (zerosFrom bs (width * i + from)) e
+    ∙ ap (zeros_from bs (width * i + from)) e
 
 module _ (bs : List ℕ) (i : ℕ) (few : i ≤ 128) where
-  pub regulars-zero : (zeroBytes bs (14 * i) 1792 && zeroBytes bs (8 * i + 2924) 3948) ≡ all blankRegular (drop i (venueFrom bs).regular)
-  unfolding venueFrom zeroBytes
+  pub regulars-zero : (zero_bytes bs (14 * i) 1792 && zero_bytes bs (8 * i + 2924) 3948) ≡ all blank_regular (drop i (venue_from bs).regular)
+  unfolding venue_from zero_bytes
   regulars-zero =
       let start : 0 + i ≡ i = omega arith in
       let low : 14 * i + 0 ≡ 14 * i = omega arith in
       let wide : 14 * (128 - i) ≡ 1792 - 14 * i = omega arith in
       let wide2 : 8 * (128 - i) ≡ 3948 - (8 * i + 2924) = omega arith in
-      sym (ap (all blankRegular) (drop-upto (rows_at regularFrom 0 14 reservesAt 8 bs) 0 i 128 ∙ ap (λ (k : ℕ). upto (rows_at regularFrom 0 14 reservesAt 8 bs) k (128 - i)) start)
-      ∙ all-along blankRegular (rows_at regularFrom 0 14 reservesAt 8 bs) (λ j. zerosFrom bs (14 * j + 0) 14 && zerosFrom bs (8 * j + reservesAt) 8) (regular-zero bs) i (128 - i)
-      ∙ all_both (λ j. zerosFrom bs (14 * j + 0) 14) (λ j. zerosFrom bs (8 * j + reservesAt) 8) (upto (λ j. j) i (128 - i))
+      sym (ap (all blank_regular) (drop-upto (rows_at regular_from 0 14 reserves_at 8 bs) 0 i 128 ∙ ap (λ (k : ℕ). upto (rows_at regular_from 0 14 reserves_at 8 bs) k (128 - i)) start)
+      ∙ all-along blank_regular (rows_at regular_from 0 14 reserves_at 8 bs) (λ j. zeros_from bs (14 * j + 0) 14 && zeros_from bs (8 * j + reserves_at) 8) (regular-zero bs) i (128 - i)
+      ∙ all_both (λ j. zeros_from bs (14 * j + 0) 14) (λ j. zeros_from bs (8 * j + reserves_at) 8) (upto (λ j. j) i (128 - i))
       ∙ ap₂ (λ (a b : Bool). a && b)
-      (rows-zero bs 0 14 i (128 - i) ∙ ap₂ (λ (j k : ℕ). zerosFrom bs j k) low wide)
-      (rows-zero bs reservesAt 8 i (128 - i) ∙ ap (zerosFrom bs (8 * i + reservesAt)) wide2))
+      (rows-zero bs 0 14 i (128 - i) ∙ ap₂ (λ (j k : ℕ). zeros_from bs j k) low wide)
+      (rows-zero bs reserves_at 8 i (128 - i) ∙ ap (zeros_from bs (8 * i + reserves_at)) wide2))
 
 module _ (bs : List ℕ) (i : ℕ) (few : i ≤ 32) where
-  pub complexes-zero : (zeroBytes bs (17 * i + 1792) 2336 && zeroBytes bs (2 * i + 3948) 4012) ≡ all blankComplex (drop i (venueFrom bs).complex)
-  unfolding venueFrom zeroBytes
+  pub complexes-zero : (zero_bytes bs (17 * i + 1792) 2336 && zero_bytes bs (2 * i + 3948) 4012) ≡ all blank_complex (drop i (venue_from bs).complex)
+  unfolding venue_from zero_bytes
   complexes-zero =
       let start : 0 + i ≡ i = omega arith in
       let wide : 17 * (32 - i) ≡ 2336 - (17 * i + 1792) = omega arith in
       let wide2 : 2 * (32 - i) ≡ 4012 - (2 * i + 3948) = omega arith in
-      sym (ap (all blankComplex) (drop-upto (rows_at complexFrom 1792 17 ratiosAt 2 bs) 0 i 32 ∙ ap (λ (k : ℕ). upto (rows_at complexFrom 1792 17 ratiosAt 2 bs) k (32 - i)) start)
-      ∙ all-along blankComplex (rows_at complexFrom 1792 17 ratiosAt 2 bs) (λ j. zerosFrom bs (17 * j + 1792) 17 && zerosFrom bs (2 * j + ratiosAt) 2) (complex-zero bs) i (32 - i)
-      ∙ all_both (λ j. zerosFrom bs (17 * j + 1792) 17) (λ j. zerosFrom bs (2 * j + ratiosAt) 2) (upto (λ j. j) i (32 - i))
+      sym (ap (all blank_complex) (drop-upto (rows_at complex_from 1792 17 ratios_at 2 bs) 0 i 32 ∙ ap (λ (k : ℕ). upto (rows_at complex_from 1792 17 ratios_at 2 bs) k (32 - i)) start)
+      ∙ all-along blank_complex (rows_at complex_from 1792 17 ratios_at 2 bs) (λ j. zeros_from bs (17 * j + 1792) 17 && zeros_from bs (2 * j + ratios_at) 2) (complex-zero bs) i (32 - i)
+      ∙ all_both (λ j. zeros_from bs (17 * j + 1792) 17) (λ j. zeros_from bs (2 * j + ratios_at) 2) (upto (λ j. j) i (32 - i))
       ∙ ap₂ (λ (a b : Bool). a && b)
-      (rows-zero bs 1792 17 i (32 - i) ∙ ap (zerosFrom bs (17 * i + 1792)) wide)
-      (rows-zero bs ratiosAt 2 i (32 - i) ∙ ap (zerosFrom bs (2 * i + ratiosAt)) wide2))
+      (rows-zero bs 1792 17 i (32 - i) ∙ ap (zeros_from bs (17 * i + 1792)) wide)
+      (rows-zero bs ratios_at 2 i (32 - i) ∙ ap (zeros_from bs (2 * i + ratios_at)) wide2))
 
-  pub editions-zero : zeroBytes bs (10 * i + 2604) 2924 ≡ all blankEdition (drop i (venueFrom bs).editions)
-  unfolding venueFrom zeroBytes
+  pub editions-zero : zero_bytes bs (10 * i + 2604) 2924 ≡ all blank_edition (drop i (venue_from bs).editions)
+  unfolding venue_from zero_bytes
   editions-zero =
       let start : 0 + i ≡ i = omega arith in
       let wide : 10 * (32 - i) ≡ 2924 - (10 * i + 2604) = omega arith in
-      sym (ap (all blankEdition) (drop-upto (row_at editionFrom editionsAt 10 bs) 0 i 32 ∙ ap (λ (k : ℕ). upto (row_at editionFrom editionsAt 10 bs) k (32 - i)) start)
-      ∙ all-along blankEdition (row_at editionFrom editionsAt 10 bs) (λ j. zerosFrom bs (10 * j + editionsAt) 10) (edition-zero bs) i (32 - i)
-      ∙ rows-zero bs editionsAt 10 i (32 - i) ∙ ap (zerosFrom bs (10 * i + editionsAt)) wide)
+      sym (ap (all blank_edition) (drop-upto (row_at edition_from editions_at 10 bs) 0 i 32 ∙ ap (λ (k : ℕ). upto (row_at edition_from editions_at 10 bs) k (32 - i)) start)
+      ∙ all-along blank_edition (row_at edition_from editions_at 10 bs) (λ j. zeros_from bs (10 * j + editions_at) 10) (edition-zero bs) i (32 - i)
+      ∙ rows-zero bs editions_at 10 i (32 - i) ∙ ap (zeros_from bs (10 * i + editions_at)) wide)

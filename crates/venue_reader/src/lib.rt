@@ -1,13 +1,13 @@
 // Reads the bytes of a venue into the numbers of a slice, and checks each place by itself. Legging places are checked later, in crate soundness.
 ghost use Rattle.std.specs.Prelude.{◌≡◌, ◌≤◌, ◌&&◌, leb, length, drop};
 ghost use Rattle.rules.specs.Base.{all};
-ghost use Rattle.rules.specs.Words.{withLegging, withSeries, withEditions, withGenerations};
-ghost use Rattle.rules.specs.Places.{blankRegular, blankComplex, blankEdition};
-ghost use Rattle.rules.specs.Sound.{listedInRange, editionInRange};
-ghost use Rattle.places.specs.Layout.{venueOf, SameCounts, RegularsLoaded, ComplexesLoaded, EditionsLoaded, Loaded};
-ghost use Rattle.venue_bytes.specs.Held.{venueFrom};
-ghost use Rattle.venue_reader.specs.Checked.{askedRegular, regularsFrom, complexesFrom, editionsFrom, numbersFrom, numbersSound, keptSound, placesSound};
-ghost use Rattle.venue_reader.specs.Checked.{zeroBytes, Tells, Becomes, BooksLoaded, editionsTo, withKept};
+ghost use Rattle.rules.specs.Words.{with_legging, with_series, with_editions, with_generations};
+ghost use Rattle.rules.specs.Places.{blank_regular, blank_complex, blank_edition};
+ghost use Rattle.rules.specs.Sound.{listed_in_range, edition_in_range};
+ghost use Rattle.places.specs.Layout.{venue_of, SameCounts, RegularsLoaded, ComplexesLoaded, EditionsLoaded, Loaded};
+ghost use Rattle.venue_bytes.specs.Held.{venue_from};
+ghost use Rattle.venue_reader.specs.Checked.{asked_regular, regulars_from, complexes_from, editions_from, numbers_from, numbers_sound, kept_sound, places_sound};
+ghost use Rattle.venue_reader.specs.Checked.{zero_bytes, Tells, Becomes, BooksLoaded, editions_to, with_kept};
 ghost use Rattle.venue_bytes.specs.Requirements.{HeldReady, HeldPlace};
 ghost use Rattle.venue_reader.specs.Requirements.{EditionsFrom, KeptReady};
 
@@ -18,7 +18,7 @@ use rules::{Edition, Listed, Regular};
 // The bytes from one position to another are all zero.
 fn is_zero(bytes: &[u8], from: usize, to: usize) -> bool
     requires { to ≤ length bytes.now }
-    ensures { result ≡ zeroBytes bytes.now from to }
+    ensures { result ≡ zero_bytes bytes.now from to }
 {
     let mut bits: u8 = 0;
     let mut k = from;
@@ -32,7 +32,7 @@ fn is_zero(bytes: &[u8], from: usize, to: usize) -> bool
 // All regular places from place i on are zero.
 fn regulars_blank(bytes: &[u8], i: usize) -> bool
     requires { HeldPlace bytes.now i 128 }
-    ensures { result ≡ all blankRegular (drop i (venueFrom bytes.now).regular) }
+    ensures { result ≡ all blank_regular (drop i (venue_from bytes.now).regular) }
 {
     if !is_zero(bytes, 14 * i, venue_bytes::COMPLEXES_AT) {
         return false;
@@ -47,7 +47,7 @@ fn regulars_blank(bytes: &[u8], i: usize) -> bool
 // All complex places from place i on are zero.
 fn complexes_blank(bytes: &[u8], i: usize) -> bool
     requires { HeldPlace bytes.now i 32 }
-    ensures { result ≡ all blankComplex (drop i (venueFrom bytes.now).complex) }
+    ensures { result ≡ all blank_complex (drop i (venue_from bytes.now).complex) }
 {
     if !is_zero(
         bytes,
@@ -66,7 +66,7 @@ fn complexes_blank(bytes: &[u8], i: usize) -> bool
 // All places of the editions from place i on are zero.
 fn editions_blank(bytes: &[u8], i: usize) -> bool
     requires { HeldPlace bytes.now i 32 }
-    ensures { result ≡ all blankEdition (drop i (venueFrom bytes.now).editions) }
+    ensures { result ≡ all blank_edition (drop i (venue_from bytes.now).editions) }
 {
     is_zero(
         bytes,
@@ -79,7 +79,7 @@ fn editions_blank(bytes: &[u8], i: usize) -> bool
 
 // The order at a held place is in range, shows what it should, and has an id of at most `last`.
 fn regular_asked(o: Regular, last: u32) -> bool
-    ensures { result ≡ askedRegular last o }
+    ensures { result ≡ asked_regular last o }
 {
     if !wire::regular_in_range(o) {
         return false;
@@ -93,7 +93,7 @@ fn regular_asked(o: Regular, last: u32) -> bool
 // Loads the regular orders and checks them: held places come first, each passes `regular_asked` and ids rise; then places that are all zero.
 fn load_regulars(numbers: &mut [u32], bytes: &[u8], last: u32) -> bool
     requires { HeldReady bytes.now numbers.old }
-    ensures { Tells (regularsFrom last 0 (venueFrom bytes.now).regular) (RegularsLoaded numbers.old (venueFrom bytes.now).regular numbers.new) result }
+    ensures { Tells (regulars_from last 0 (venue_from bytes.now).regular) (RegularsLoaded numbers.old (venue_from bytes.now).regular numbers.new) result }
 {
     let mut low: u32 = 0;
     let mut i: usize = 0;
@@ -120,7 +120,7 @@ fn load_regulars(numbers: &mut [u32], bytes: &[u8], last: u32) -> bool
 // Loads the complex orders and checks them: held places come first, each in range with an id of at most `last`, and ids rise; then places that are all zero.
 fn load_complexes(numbers: &mut [u32], bytes: &[u8], last: u32) -> bool
     requires { HeldReady bytes.now numbers.old }
-    ensures { Tells (complexesFrom last 0 (venueFrom bytes.now).complex) (ComplexesLoaded numbers.old (venueFrom bytes.now).complex numbers.new) result }
+    ensures { Tells (complexes_from last 0 (venue_from bytes.now).complex) (ComplexesLoaded numbers.old (venue_from bytes.now).complex numbers.new) result }
 {
     let mut low: u32 = 0;
     let mut i: usize = 0;
@@ -150,7 +150,7 @@ fn load_complexes(numbers: &mut [u32], bytes: &[u8], last: u32) -> bool
 // Loads both books and checks them.
 fn load_books(numbers: &mut [u32], bytes: &[u8], last: u32) -> bool
     requires { HeldReady bytes.now numbers.old }
-    ensures { Tells (regularsFrom last 0 (venueFrom bytes.now).regular && complexesFrom last 0 (venueFrom bytes.now).complex) (BooksLoaded (venueFrom bytes.now) numbers.old numbers.new) result }
+    ensures { Tells (regulars_from last 0 (venue_from bytes.now).regular && complexes_from last 0 (venue_from bytes.now).complex) (BooksLoaded (venue_from bytes.now) numbers.old numbers.new) result }
 {
     if !load_regulars(numbers, bytes, last) {
         return false;
@@ -163,7 +163,7 @@ fn load_books(numbers: &mut [u32], bytes: &[u8], last: u32) -> bool
 // Loads the legging orders. They are checked once the whole venue is read.
 fn load_leggings(numbers: &mut [u32], bytes: &[u8])
     requires { HeldReady bytes.now numbers.old }
-    ensures { Becomes (withLegging (venueOf numbers.old) (venueFrom bytes.now).legging) numbers.old numbers.new }
+    ensures { Becomes (with_legging (venue_of numbers.old) (venue_from bytes.now).legging) numbers.old numbers.new }
 {
     let mut i: usize = 0;
     while i < 16 {
@@ -175,7 +175,7 @@ fn load_leggings(numbers: &mut [u32], bytes: &[u8])
 
 // A series' fields are in range.
 fn listed_in_range(x: Listed) -> bool
-    ensures { result ≡ listedInRange x }
+    ensures { result ≡ listed_in_range x }
 {
     if 2 < x.status {
         return false;
@@ -189,7 +189,7 @@ fn listed_in_range(x: Listed) -> bool
 // Loads every series, and checks that its status and away prices are in their ranges.
 fn load_series(numbers: &mut [u32], bytes: &[u8]) -> bool
     requires { HeldReady bytes.now numbers.old }
-    ensures { Tells (all listedInRange (venueFrom bytes.now).series) (Becomes (withSeries (venueOf numbers.old) (venueFrom bytes.now).series) numbers.old numbers.new) result }
+    ensures { Tells (all listed_in_range (venue_from bytes.now).series) (Becomes (with_series (venue_of numbers.old) (venue_from bytes.now).series) numbers.old numbers.new) result }
 {
     let mut i: usize = 0;
     while i < 8 {
@@ -207,7 +207,7 @@ fn load_series(numbers: &mut [u32], bytes: &[u8]) -> bool
 
 // A held edition sets an increment or the percentage to a value in its range. Any u32 is an edition, and a message's number.
 fn edition_in_range(e: Edition) -> bool
-    ensures { result ≡ editionInRange e }
+    ensures { result ≡ edition_in_range e }
 {
     if e.figure <= 7 {
         return arithmetic::is_increment(e.value);
@@ -221,7 +221,7 @@ fn edition_in_range(e: Edition) -> bool
 // Every place of the editions from place `from` on becomes free.
 fn free_editions(numbers: &mut [u32], from: usize)
     requires { EditionsFrom numbers.old from }
-    ensures { EditionsLoaded numbers.old (editionsTo from numbers.old) numbers.new }
+    ensures { EditionsLoaded numbers.old (editions_to from numbers.old) numbers.new }
 {
     let none = rules::NO_EDITION;
     let mut i = from;
@@ -234,7 +234,7 @@ fn free_editions(numbers: &mut [u32], from: usize)
 // Loads the editions and checks them: held places come first, in range, and rise in edition and message; then places that are all zero.
 fn load_editions(numbers: &mut [u32], bytes: &[u8]) -> bool
     requires { HeldReady bytes.now numbers.old }
-    ensures { Tells (editionsFrom 0 0 (venueFrom bytes.now).editions) (EditionsLoaded numbers.old (venueFrom bytes.now).editions numbers.new) result }
+    ensures { Tells (editions_from 0 0 (venue_from bytes.now).editions) (EditionsLoaded numbers.old (venue_from bytes.now).editions numbers.new) result }
 {
     let mut low: u32 = 0;
     let mut past: u32 = 0;
@@ -271,7 +271,7 @@ fn is_unfallen(low: u32, n: u32) -> bool
 
 // A series' generations do not fall in number.
 fn numbers_sound(l: [u32; 20]) -> bool
-    ensures { result ≡ numbersFrom 0 l }
+    ensures { result ≡ numbers_from 0 l }
 {
     let mut low: u32 = 0;
     let mut i: usize = 0;
@@ -289,7 +289,7 @@ fn numbers_sound(l: [u32; 20]) -> bool
 // Loads every series' generations, and checks that their numbers do not fall.
 fn load_generations(numbers: &mut [u32], bytes: &[u8]) -> bool
     requires { HeldReady bytes.now numbers.old }
-    ensures { Tells (all numbersSound (venueFrom bytes.now).generations) (Becomes (withGenerations (venueOf numbers.old) (venueFrom bytes.now).generations) numbers.old numbers.new) result }
+    ensures { Tells (all numbers_sound (venue_from bytes.now).generations) (Becomes (with_generations (venue_of numbers.old) (venue_from bytes.now).generations) numbers.old numbers.new) result }
 {
     let mut s: usize = 0;
     while s < 8 {
@@ -307,7 +307,7 @@ fn load_generations(numbers: &mut [u32], bytes: &[u8]) -> bool
 // Loads and checks what there is beside the orders and the series: editions, generations, and the id that limited sweeps have reached.
 fn load_kept(numbers: &mut [u32], bytes: &[u8], last: u32) -> bool
     requires { KeptReady numbers.old bytes.now last }
-    ensures { Tells (keptSound (venueFrom bytes.now)) (Becomes (withKept (venueFrom bytes.now) (venueOf numbers.old)) numbers.old numbers.new) result }
+    ensures { Tells (kept_sound (venue_from bytes.now)) (Becomes (with_kept (venue_from bytes.now) (venue_of numbers.old)) numbers.old numbers.new) result }
 {
     if !load_editions(numbers, bytes) {
         return false;
@@ -326,7 +326,7 @@ fn load_kept(numbers: &mut [u32], bytes: &[u8], last: u32) -> bool
 // Where this holds, the numbers stand for the venue afterwards.
 pub fn load_places(numbers: &mut [u32], bytes: &[u8]) -> bool
     requires { HeldReady bytes.now numbers.old }
-    ensures { Tells (placesSound (venueFrom bytes.now)) (Loaded (venueFrom bytes.now) numbers.new) result }
+    ensures { Tells (places_sound (venue_from bytes.now)) (Loaded (venue_from bytes.now) numbers.new) result }
 {
     let last = wire::word_at(bytes, venue_bytes::LAST_AT);
     if !load_books(numbers, bytes, last) {

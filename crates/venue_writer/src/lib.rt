@@ -1,8 +1,8 @@
 // Writes a venue as bytes (venue_bytes' specs/Held.antt).
 ghost use Rattle.std.specs.Prelude.{◌≡◌, ◌+◌, ◌≤◌, length};
 ghost use Rattle.records.specs.Seen.{seen, pasted, ◌plus◌};
-ghost use Rattle.venue_bytes.specs.Held.{editionsAt, reservesAt, ratiosAt, generationsAt, venueSize, venueFrom};
-ghost use Rattle.venue_bytes.specs.Held.{regularBytes, complexBytes, leggingBytes, listedBytes, editionBytes, reserveBytes, ratioBytes, generationsBytes, rows, venueBytes};
+ghost use Rattle.venue_bytes.specs.Held.{editions_at, reserves_at, ratios_at, generations_at, venue_size, venue_from};
+ghost use Rattle.venue_bytes.specs.Held.{regular_bytes, complex_bytes, legging_bytes, listed_bytes, edition_bytes, reserve_bytes, ratio_bytes, generations_bytes, rows, venue_bytes};
 
 use rules::{Complex, Edition, Generations, Legging, Listed, Regular, Venue};
 
@@ -10,7 +10,7 @@ use rules::{Complex, Edition, Generations, Legging, Listed, Regular, Venue};
 
 // A regular order's row.
 pub fn put_regular(out: &mut [u8], at: usize, o: Regular)
-    ensures { out.new ≡ (seen out.old at plus regularBytes o).memory }
+    ensures { out.new ≡ (seen out.old at plus regular_bytes o).memory }
 {
     let i = records::bytes4(o.id);
     let head = [i[0], i[1], i[2], i[3], o.series, o.side];
@@ -20,7 +20,7 @@ pub fn put_regular(out: &mut [u8], at: usize, o: Regular)
 
 // The row of a regular order's reserve.
 pub fn put_reserve(out: &mut [u8], at: usize, o: Regular)
-    ensures { out.new ≡ (seen out.old at plus reserveBytes o).memory }
+    ensures { out.new ≡ (seen out.old at plus reserve_bytes o).memory }
 {
     let head = records::bytes4(o.reserve);
     let words = [o.display];
@@ -29,7 +29,7 @@ pub fn put_reserve(out: &mut [u8], at: usize, o: Regular)
 
 // A complex order's row.
 pub fn put_complex(out: &mut [u8], at: usize, c: Complex)
-    ensures { out.new ≡ (seen out.old at plus complexBytes c).memory }
+    ensures { out.new ≡ (seen out.old at plus complex_bytes c).memory }
 {
     let i = records::bytes4(c.id);
     let head = [
@@ -41,7 +41,7 @@ pub fn put_complex(out: &mut [u8], at: usize, c: Complex)
 
 // The row of a complex order's ratios.
 pub fn put_ratio(out: &mut [u8], at: usize, c: Complex)
-    ensures { out.new ≡ (seen out.old at plus ratioBytes c).memory }
+    ensures { out.new ≡ (seen out.old at plus ratio_bytes c).memory }
 {
     let row = [c.ratio1, c.ratio2];
     records::put(out, at, &row);
@@ -49,7 +49,7 @@ pub fn put_ratio(out: &mut [u8], at: usize, c: Complex)
 
 // A legging order's row.
 pub fn put_legging(out: &mut [u8], at: usize, l: Legging)
-    ensures { out.new ≡ (seen out.old at plus leggingBytes l).memory }
+    ensures { out.new ≡ (seen out.old at plus legging_bytes l).memory }
 {
     let head = records::bytes4(l.parent);
     let words = [l.price, l.quantity];
@@ -58,7 +58,7 @@ pub fn put_legging(out: &mut [u8], at: usize, l: Legging)
 
 // The row of a series' status and away prices.
 pub fn put_listed(out: &mut [u8], at: usize, x: Listed)
-    ensures { out.new ≡ (seen out.old at plus listedBytes x).memory }
+    ensures { out.new ≡ (seen out.old at plus listed_bytes x).memory }
 {
     let head = [x.status];
     let words = [x.bid, x.offer];
@@ -67,7 +67,7 @@ pub fn put_listed(out: &mut [u8], at: usize, x: Listed)
 
 // An edition's row.
 pub fn put_edition(out: &mut [u8], at: usize, x: Edition)
-    ensures { out.new ≡ (seen out.old at plus editionBytes x).memory }
+    ensures { out.new ≡ (seen out.old at plus edition_bytes x).memory }
 {
     let e = records::bytes4(x.edition);
     let m = records::bytes4(x.message);
@@ -80,7 +80,7 @@ pub fn put_edition(out: &mut [u8], at: usize, x: Edition)
 // The row of a series' generations.
 fn put_generations(out: &mut [u8], at: usize, g: Generations)
     requires { at + 80 ≤ length out.old }
-    ensures { out.new ≡ (seen out.old at plus generationsBytes g).memory }
+    ensures { out.new ≡ (seen out.old at plus generations_bytes g).memory }
 {
     let messages = g.messages;
     let mut k: usize = 0;
@@ -95,8 +95,8 @@ fn put_generations(out: &mut [u8], at: usize, g: Generations)
 
 // The regular orders' rows.
 fn put_regulars(out: &mut [u8], l: [Regular; 128])
-    requires { length out.old ≡ venueSize }
-    ensures { out.new ≡ pasted out.old 0 (rows regularBytes l) }
+    requires { length out.old ≡ venue_size }
+    ensures { out.new ≡ pasted out.old 0 (rows regular_bytes l) }
 {
     let mut i: usize = 0;
     while i < 128 {
@@ -108,8 +108,8 @@ fn put_regulars(out: &mut [u8], l: [Regular; 128])
 
 // The complex orders' rows.
 fn put_complexes(out: &mut [u8], l: [Complex; 32])
-    requires { length out.old ≡ venueSize }
-    ensures { out.new ≡ pasted out.old 1792 (rows complexBytes l) }
+    requires { length out.old ≡ venue_size }
+    ensures { out.new ≡ pasted out.old 1792 (rows complex_bytes l) }
 {
     let mut i: usize = 0;
     while i < 32 {
@@ -121,8 +121,8 @@ fn put_complexes(out: &mut [u8], l: [Complex; 32])
 
 // The legging orders' rows.
 fn put_leggings(out: &mut [u8], l: [Legging; 16])
-    requires { length out.old ≡ venueSize }
-    ensures { out.new ≡ pasted out.old 2336 (rows leggingBytes l) }
+    requires { length out.old ≡ venue_size }
+    ensures { out.new ≡ pasted out.old 2336 (rows legging_bytes l) }
 {
     let mut i: usize = 0;
     while i < 16 {
@@ -134,8 +134,8 @@ fn put_leggings(out: &mut [u8], l: [Legging; 16])
 
 // The series' rows.
 fn put_series(out: &mut [u8], l: [Listed; 8])
-    requires { length out.old ≡ venueSize }
-    ensures { out.new ≡ pasted out.old 2528 (rows listedBytes l) }
+    requires { length out.old ≡ venue_size }
+    ensures { out.new ≡ pasted out.old 2528 (rows listed_bytes l) }
 {
     let mut i: usize = 0;
     while i < 8 {
@@ -147,8 +147,8 @@ fn put_series(out: &mut [u8], l: [Listed; 8])
 
 // The editions' rows.
 fn put_editions(out: &mut [u8], l: [Edition; 32])
-    requires { length out.old ≡ venueSize }
-    ensures { out.new ≡ pasted out.old editionsAt (rows editionBytes l) }
+    requires { length out.old ≡ venue_size }
+    ensures { out.new ≡ pasted out.old editions_at (rows edition_bytes l) }
 {
     let mut i: usize = 0;
     while i < 32 {
@@ -160,8 +160,8 @@ fn put_editions(out: &mut [u8], l: [Edition; 32])
 
 // The rows of the regular orders' reserves.
 fn put_reserves(out: &mut [u8], l: [Regular; 128])
-    requires { length out.old ≡ venueSize }
-    ensures { out.new ≡ pasted out.old reservesAt (rows reserveBytes l) }
+    requires { length out.old ≡ venue_size }
+    ensures { out.new ≡ pasted out.old reserves_at (rows reserve_bytes l) }
 {
     let mut i: usize = 0;
     while i < 128 {
@@ -173,8 +173,8 @@ fn put_reserves(out: &mut [u8], l: [Regular; 128])
 
 // The rows of the complex orders' ratios.
 fn put_ratios(out: &mut [u8], l: [Complex; 32])
-    requires { length out.old ≡ venueSize }
-    ensures { out.new ≡ pasted out.old ratiosAt (rows ratioBytes l) }
+    requires { length out.old ≡ venue_size }
+    ensures { out.new ≡ pasted out.old ratios_at (rows ratio_bytes l) }
 {
     let mut i: usize = 0;
     while i < 32 {
@@ -186,8 +186,8 @@ fn put_ratios(out: &mut [u8], l: [Complex; 32])
 
 // The rows of the series' generations.
 fn put_all_generations(out: &mut [u8], l: [Generations; 8])
-    requires { length out.old ≡ venueSize }
-    ensures { out.new ≡ pasted out.old generationsAt (rows generationsBytes l) }
+    requires { length out.old ≡ venue_size }
+    ensures { out.new ≡ pasted out.old generations_at (rows generations_bytes l) }
 {
     let mut i: usize = 0;
     while i < 8 {
@@ -199,8 +199,8 @@ fn put_all_generations(out: &mut [u8], l: [Generations; 8])
 
 // Writes the venue's bytes over what was there.
 pub fn put_venue(out: &mut [u8], v: Venue)
-    requires { length out.old ≡ venueSize }
-    ensures { out.new ≡ venueBytes v }
+    requires { length out.old ≡ venue_size }
+    ensures { out.new ≡ venue_bytes v }
 {
     let regular = v.regular;
     put_regulars(out, regular);
@@ -226,7 +226,7 @@ pub fn put_venue(out: &mut [u8], v: Venue)
 
 // The bytes of a venue by value. Reading the bytes gives the venue back.
 pub fn bytes_of(v: Venue) -> [u8; venue_bytes::VENUE_SIZE]
-    ensures { (length result ≡ venueSize) × (venueFrom result ≡ v) }
+    ensures { (length result ≡ venue_size) × (venue_from result ≡ v) }
 {
     let mut bytes = [0u8; venue_bytes::VENUE_SIZE];
     put_venue(&mut bytes, v);

@@ -1,10 +1,10 @@
 // Reads little-endian numbers and the fields of messages, and checks the fields' ranges.
 ghost use Rattle.std.specs.Prelude.{◌≡◌, not, ◌&&◌, ◌+◌, ◌-◌, ◌≤◌, ◌<◌, eqb, length};
-ghost use Rattle.rules.specs.Words.{within, isSeries, isSide, isStatus, isAway, isLimit};
-ghost use Rattle.rules.specs.Settings.{isIncrement};
-ghost use Rattle.rules.specs.Bytes.{u8_at, u16At, u32_at, as_signed};
-ghost use Rattle.rules.specs.Messages.{order_at, twoLegAt};
-ghost use Rattle.rules.specs.Refusals.{regularInRange, twoLegInRange, complexInRange};
+ghost use Rattle.rules.specs.Words.{within, is_series, is_side, is_status, is_away, is_limit};
+ghost use Rattle.rules.specs.Settings.{is_increment};
+ghost use Rattle.rules.specs.Bytes.{u8_at, u16_at, u32_at, as_signed};
+ghost use Rattle.rules.specs.Messages.{order_at, two_leg_at};
+ghost use Rattle.rules.specs.Refusals.{regular_in_range, two_leg_in_range, complex_in_range};
 
 use rules::{Complex, Regular};
 
@@ -33,7 +33,7 @@ pub fn u8_at(s: &[u8], at: usize) -> u8
 
 // The number of 16 bits at a position; a byte past the end of `s` is read as 0.
 pub fn u16_at(s: &[u8], at: usize) -> u16
-    ensures { result ≡ u16At s.now at }
+    ensures { result ≡ u16_at s.now at }
 {
     if s.len() <= at {
         return 0;
@@ -77,7 +77,7 @@ pub fn byte_at(s: &[u8], at: usize) -> u8
 // The number of 16 bits at a position that `s` has.
 pub fn half_at(s: &[u8], at: usize) -> u16
     requires { at + 2 ≤ length s.now }
-    ensures { result ≡ u16At s.now at }
+    ensures { result ≡ u16_at s.now at }
 {
     let low = wide16(byte_at(s, at));
     let high = wide16(byte_at(s, at + 1));
@@ -98,7 +98,7 @@ pub fn word_at(s: &[u8], at: usize) -> u32
 
 // A limit is from -far to far.
 fn is_limit(far: u32, n: i32) -> bool
-    ensures { result ≡ isLimit far n }
+    ensures { result ≡ is_limit far n }
 {
     let top = far as i64;
     let x = n as i64;
@@ -110,7 +110,7 @@ fn is_limit(far: u32, n: i32) -> bool
 
 // An order's fields are in their ranges. That its price is a multiple of the increment in force depends on the venue, and is tested elsewhere.
 pub fn regular_in_range(o: Regular) -> bool
-    ensures { result ≡ regularInRange o }
+    ensures { result ≡ regular_in_range o }
 {
     if o.id == 0 {
         return false;
@@ -135,7 +135,7 @@ pub fn regular_in_range(o: Regular) -> bool
 
 // A complex order's legs are in their ranges, and in two series.
 fn legs_in_range(c: Complex) -> bool
-    ensures { result ≡ (isSeries c.series1 && isSide c.side1 && isSeries c.series2 && isSide c.side2 && not (eqb c.series1 c.series2)) }
+    ensures { result ≡ (is_series c.series1 && is_side c.side1 && is_series c.series2 && is_side c.side2 && not (eqb c.series1 c.series2)) }
 {
     if 7 < c.series1 {
         return false;
@@ -154,7 +154,7 @@ fn legs_in_range(c: Complex) -> bool
 
 // A complex order's fields are in their ranges, its limit from -far to far.
 pub fn two_leg_in_range(far: u32, c: Complex) -> bool
-    ensures { result ≡ twoLegInRange far c }
+    ensures { result ≡ two_leg_in_range far c }
 {
     if c.id == 0 {
         return false;
@@ -179,7 +179,7 @@ pub fn two_leg_in_range(far: u32, c: Complex) -> bool
 
 // A complex order may rest: it is in range for kind 2, or for kind 10 with ratios that differ.
 pub fn complex_in_range(c: Complex) -> bool
-    ensures { result ≡ complexInRange c }
+    ensures { result ≡ complex_in_range c }
 {
     if arithmetic::is_one_to_one(c) {
         return two_leg_in_range(200000, c);
@@ -192,7 +192,7 @@ pub fn complex_in_range(c: Complex) -> bool
 
 // The fields of away prices are in their ranges.
 pub fn away_in_range(series: u8, bid: u32, offer: u32) -> bool
-    ensures { result ≡ (isSeries series && isAway bid && isAway offer) }
+    ensures { result ≡ (is_series series && is_away bid && is_away offer) }
 {
     if 7 < series {
         return false;
@@ -205,7 +205,7 @@ pub fn away_in_range(series: u8, bid: u32, offer: u32) -> bool
 
 // The fields of a status are in their ranges.
 pub fn status_in_range(series: u8, status: u8) -> bool
-    ensures { result ≡ (isSeries series && isStatus status) }
+    ensures { result ≡ (is_series series && is_status status) }
 {
     if 7 < series {
         return false;
@@ -215,7 +215,7 @@ pub fn status_in_range(series: u8, status: u8) -> bool
 
 // The fields of an increment are in their ranges.
 pub fn increment_in_range(series: u8, increment: u8) -> bool
-    ensures { result ≡ (isSeries series && isIncrement increment) }
+    ensures { result ≡ (is_series series && is_increment increment) }
 {
     if 7 < series {
         return false;
@@ -254,7 +254,7 @@ pub fn order_at(s: &[u8], display: u32) -> Regular
 // The complex order at the front of `s`, with these ratios.
 pub fn two_leg_at(s: &[u8], ratio1: u8, ratio2: u8) -> Complex
     requires { 21 ≤ length s.now }
-    ensures { result ≡ twoLegAt s.now ratio1 ratio2 }
+    ensures { result ≡ two_leg_at s.now ratio1 ratio2 }
 {
     Complex {
         id: word_at(s, 4),

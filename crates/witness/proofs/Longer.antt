@@ -17,23 +17,23 @@ use Rattle.rules.specs.declared.Message.TheVariants.{LimitedSweep}
 use Rattle.rules.specs.declared.Regular.{Regular}
 use Rattle.rules.specs.declared.Settings.{Settings}
 use Rattle.rules.specs.declared.Venue.{Venue}
-use Rattle.rules.specs.Words.{complexAt, leggingAt, noRegular, regularAt}
-use Rattle.rules.specs.Messages.{encodeMessage, messageOf}
+use Rattle.rules.specs.Words.{complex_at, legging_at, no_regular, regular_at}
+use Rattle.rules.specs.Messages.{encode_message, message_of}
 use Rattle.rules.specs.Records.{Report, answer, cancelled, pair, removed, trade}
-use Rattle.rules.specs.Trading.{putRegular}
+use Rattle.rules.specs.Trading.{put_regular}
 use Rattle.rules.specs.Order.{hit}
 use Rattle.rules.specs.Refusals.{refusal}
 use Rattle.rules.specs.Calls.{settings}
-use Rattle.rules.specs.Sums.{generatedOf, total}
+use Rattle.rules.specs.Sums.{generated_of, total}
 use Rattle.rules.specs.Opened.{opened-rules}
 use Rattle.rules.proofs.Tests.{and_l, and_r}
-use Rattle.demands.specs.Demand.{Accepted, Seen, byRun, callUpon, calls, extend, givenTo, opening, parts, start}
+use Rattle.demands.specs.Demand.{Accepted, Seen, by_run, call_upon, calls, extend, given_to, opening, parts, start}
 use Rattle.demands.specs.Soundness.{SoundAt}
-use Rattle.demands.specs.LimitedSweeps.{Stays, looks, looksAll, looksBy, looksIn, resting, round}
-use Rattle.demands.specs.Truth.{venueAfter}
+use Rattle.demands.specs.LimitedSweeps.{Stays, looks, looks_all, looks_by, looks_in, resting, round}
+use Rattle.demands.specs.Truth.{venue_after}
 use Rattle.demands.proofs.Calls.{always-sound}
-use Rattle.witness.specs.Witness.{both, bytes_of, regularSums, reserved, units}
-use Rattle.witness.specs.Longer.{Longer, afternoon, arrived, complexSums, evening, morning, noon, oneByOne}
+use Rattle.witness.specs.Witness.{both, bytes_of, regular_sums, reserved, units}
+use Rattle.witness.specs.Longer.{Longer, afternoon, arrived, complex_sums, evening, morning, noon, one_by_one}
 use Rattle.witness.proofs.Witness.{at_mem}
 
 -- In the evening ------------------------------------------------------------------------------
@@ -49,37 +49,37 @@ record Reading : Type 0 where
   free : Regular
   hits : List Report
   sums : List ℕ
-  reserveSums : List ℕ
-  unequalSums : List ℕ
+  reserve_sums : List ℕ
+  unequal_sums : List ℕ
   -- three messages, their answers, and how many records there are
   message : Message
-  reserveMessage : Message
-  unequalMessage : Message
+  reserve_message : Message
+  unequal_message : Message
   answered : Report
-  reserveAnswered : Report
-  unequalAnswered : Report
+  reserve_answered : Report
+  unequal_answered : Report
   many : ℕ
 
 reading : Seen → Reading
 reading s = record {
   done = s.done;
   editions = settings s.venue 27;
-  ceiling = total (generatedOf 0) s.reports;
-  standing = leggingAt s.venue 0 0;
-  standing' = leggingAt s.venue 2 0;
-  reserve = regularAt s.venue 4;
-  unequal = complexAt s.venue 6;
-  free = regularAt s.venue 6;
-  hits = (hit 6 (leggingAt s.venue 0 0) 5 (putRegular 6 (record { id = 16; series = 0; side = 1; price = 140; quantity = 5; display = 5; reserve = 0 }) s.venue)).reports;
-  sums = complexSums 6 s;
-  reserveSums = regularSums 8 1 s;
-  unequalSums = complexSums 13 s;
-  message = messageOf (get_or s.messages 5 []);
-  reserveMessage = messageOf (get_or s.messages 7 []);
-  unequalMessage = messageOf (get_or s.messages 21 []);
+  ceiling = total (generated_of 0) s.reports;
+  standing = legging_at s.venue 0 0;
+  standing' = legging_at s.venue 2 0;
+  reserve = regular_at s.venue 4;
+  unequal = complex_at s.venue 6;
+  free = regular_at s.venue 6;
+  hits = (hit 6 (legging_at s.venue 0 0) 5 (put_regular 6 (record { id = 16; series = 0; side = 1; price = 140; quantity = 5; display = 5; reserve = 0 }) s.venue)).reports;
+  sums = complex_sums 6 s;
+  reserve_sums = regular_sums 8 1 s;
+  unequal_sums = complex_sums 13 s;
+  message = message_of (get_or s.messages 5 []);
+  reserve_message = message_of (get_or s.messages 7 []);
+  unequal_message = message_of (get_or s.messages 21 []);
   answered = get_or s.reports 5 (cancelled 0 0);
-  reserveAnswered = get_or s.reports 7 (cancelled 0 0);
-  unequalAnswered = get_or s.reports 63 (cancelled 0 0);
+  reserve_answered = get_or s.reports 7 (cancelled 0 0);
+  unequal_answered = get_or s.reports 63 (cancelled 0 0);
   many = length s.reports;
 }
 
@@ -92,22 +92,22 @@ read = record {
   standing' = record { parent = 14; price = 40; quantity = 5 };
   reserve = record { id = 12; series = 1; side = 1; price = 60; quantity = 10; display = 8; reserve = 2 };
   unequal = record { id = 13; series1 = 0; side1 = 0; series2 = 1; side2 = 0; class = 1; limit = pos 300; quantity = 3; ratio1 = 2; ratio2 = 1 };
-  free = noRegular;
+  free = no_regular;
   hits = trade 0 1 141 5 16 2 ∷ trade 1 0 60 5 2 12 ∷ pair 2 (pos 201) 5 ∷ removed 2 0 0 Executed ∷ [];
   sums = 3 ∷ 3 ∷ 3 ∷ 0 ∷ 0 ∷ 5 ∷ [];
-  reserveSums = 3 ∷ 0 ∷ 9 ∷ [];
-  unequalSums = 0 ∷ 0 ∷ 0 ∷ 0 ∷ 0 ∷ 3 ∷ [];
+  reserve_sums = 3 ∷ 0 ∷ 9 ∷ [];
+  unequal_sums = 0 ∷ 0 ∷ 0 ∷ 0 ∷ 0 ∷ 3 ∷ [];
   message = both 6 0 1 (pos 205) 8;
-  reserveMessage = reserved 8 1 1 90 12 8;
-  unequalMessage = units 13 0 2 1 (pos 300) 3;
+  reserve_message = reserved 8 1 1 90 12 8;
+  unequal_message = units 13 0 2 1 (pos 300) 3;
   answered = answer 6 0 0 0;
-  reserveAnswered = answer 8 0 0 0;
-  unequalAnswered = answer 22 0 1 1;
+  reserve_answered = answer 8 0 0 0;
+  unequal_answered = answer 22 0 1 1;
   many = 73;
 }
 
 is_read : reading evening ≡ read
-unfolding opened-rules reading read bytes_of regularSums complexSums morning afternoon oneByOne noon evening start extend parts opening calls callUpon givenTo
+unfolding opened-rules reading read bytes_of regular_sums complex_sums morning afternoon one_by_one noon evening start extend parts opening calls call_upon given_to
 is_read = refl
 
 -- the record at a place is among the records
@@ -122,7 +122,7 @@ is-told n r h e =
 -- an id is at this place of those that rest when each of the messages starts
 is_at : (id place : ℕ) → Venue → (n : ℕ) → List (List ℕ) → Bool
 is_at x i v n [] = true
-is_at x i v n (m ∷ ms) = (ltb i (length (resting v)) && eqb (get_or (resting v) i 0) x) && is_at x i (venueAfter v (suc n) m) (suc n) ms
+is_at x i v n (m ∷ ms) = (ltb i (length (resting v)) && eqb (get_or (resting v) i 0) x) && is_at x i (venue_after v (suc n) m) (suc n) ms
 
 so-stays : (x i : ℕ) (v : Venue) (n : ℕ) (ms : List (List ℕ)) → is_at x i v n ms ≡ true → Stays x v n ms
 unfolding is_at
@@ -130,10 +130,10 @@ so-stays x i v n [] h = tt
 so-stays x i v n (m ∷ ms) h =
     let a = ltb i (length (resting v)) in
     let b = eqb (get_or (resting v) i 0) x in
-    let r = is_at x i (venueAfter v (suc n) m) (suc n) ms in
+    let r = is_at x i (venue_after v (suc n) m) (suc n) ms in
     let f = and_l (a && b) r h in (
       at_mem (resting v) i 0 x (ltb-true i (length (resting v)) (and_l a b f)) (eqb-true (get_or (resting v) i 0) x (and_r a b f)),
-      so-stays x i (venueAfter v (suc n) m) (suc n) ms (and_r (a && b) r h),
+      so-stays x i (venue_after v (suc n) m) (suc n) ms (and_r (a && b) r h),
     )
 
 record Look : Type 0 where
@@ -147,11 +147,11 @@ record Look : Type 0 where
 look : Seen → Look
 look s = record {
   done = s.done;
-  taken = refusal s.venue (encodeMessage (LimitedSweep 7));
+  taken = refusal s.venue (encode_message (LimitedSweep 7));
   seven = looks 7 s.venue;
   first = is_at 1 0 s.venue 23 afternoon;
   last = is_at 14 7 s.venue 23 afternoon;
-  turns = looksAll s.venue 23 afternoon;
+  turns = looks_all s.venue 23 afternoon;
 }
 
 looked : Look
@@ -165,17 +165,17 @@ looked = record {
 }
 
 is-looked : look noon ≡ looked
-unfolding opened-rules look looked is_at bytes_of morning afternoon noon start extend parts opening resting round looks looksBy looksIn looksAll venueAfter
+unfolding opened-rules look looked is_at bytes_of morning afternoon noon start extend parts opening resting round looks looks_by looks_in looks_all venue_after
 is-looked = refl
 
 sound-noon : SoundAt 24 noon.venue
 unfolding noon calls look looked
 sound-noon =
-    subst (λ (n : ℕ). SoundAt (suc n) noon.venue) (ap (λ (x : Look). x.done) is-looked) (always-sound (byRun (record { room = 2000; bytes = bytes_of morning })) [])
+    subst (λ (n : ℕ). SoundAt (suc n) noon.venue) (ap (λ (x : Look). x.done) is-looked) (always-sound (by_run (record { room = 2000; bytes = bytes_of morning })) [])
 
 -- The statement -------------------------------------------------------------------------------
 
-by-computation : messageOf (encodeMessage (LimitedSweep 7)) ≡ LimitedSweep 7
+by-computation : message_of (encode_message (LimitedSweep 7)) ≡ LimitedSweep 7
 unfolding opened-rules
 by-computation = refl
 
@@ -201,22 +201,22 @@ longer = record {
     told = is-told 5 (answer 6 0 0 0) (omega arith) (ap (λ (x : Reading). x.answered) is_read);
   };
   account = ap (λ (x : Reading). x.sums) is_read;
-  reserveAccepted = record {
+  reserve_accepted = record {
     before = 7;
-    is = ap (λ (x : Reading). x.reserveMessage) is_read;
+    is = ap (λ (x : Reading). x.reserve_message) is_read;
     mask = 0;
     count = 0;
-    told = is-told 7 (answer 8 0 0 0) (omega arith) (ap (λ (x : Reading). x.reserveAnswered) is_read);
+    told = is-told 7 (answer 8 0 0 0) (omega arith) (ap (λ (x : Reading). x.reserve_answered) is_read);
   };
-  reserveAccount = ap (λ (x : Reading). x.reserveSums) is_read;
-  unequalAccepted = record {
+  reserve_account = ap (λ (x : Reading). x.reserve_sums) is_read;
+  unequal_accepted = record {
     before = 21;
-    is = ap (λ (x : Reading). x.unequalMessage) is_read;
+    is = ap (λ (x : Reading). x.unequal_message) is_read;
     mask = 1;
     count = 1;
-    told = is-told 63 (answer 22 0 1 1) (omega arith) (ap (λ (x : Reading). x.unequalAnswered) is_read);
+    told = is-told 63 (answer 22 0 1 1) (omega arith) (ap (λ (x : Reading). x.unequal_answered) is_read);
   };
-  unequalAccount = ap (λ (x : Reading). x.unequalSums) is_read;
+  unequal_account = ap (λ (x : Reading). x.unequal_sums) is_read;
   sound = sound-noon;
   limited = by-computation;
   taken = ap (λ (x : Look). x.taken) is-looked;

@@ -3,11 +3,11 @@
 ghost use Rattle.std.specs.Prelude.{◌≡◌, ◌*◌, ◌/◌};
 ghost use Rattle.rules.specs.declared.Venue.{Venue};
 ghost use Rattle.rules.specs.Effects.{repeat};
-ghost use Rattle.rules.specs.Complex.{legsIn, unitsIn, legInTurn};
+ghost use Rattle.rules.specs.Complex.{legs_in, units_in, leg_in_turn};
 ghost use Rattle.rules.specs.Complex as complex;
 ghost use Rattle.records.specs.Seen.{seen};
 ghost use Rattle.records.specs.Stage.{stage, ◌does◌};
-ghost use Rattle.places.specs.Layout.{venueOf, SameCounts};
+ghost use Rattle.places.specs.Layout.{venue_of, SameCounts};
 ghost use Rattle.levels.specs.Grid.{TakenOf};
 ghost use Rattle.levels.specs.Requirements.{TakenFigured};
 ghost use Rattle.places.specs.Requirements.{RightComplex};
@@ -18,7 +18,7 @@ use rules::Complex;
 // The net of a and p, the best regular prices that c would take, is at most its limit and in band.
 fn can_leg_in(numbers: &[u32], taken: TakenLevels, c: Complex, a: u32, p: u32) -> bool
     requires { TakenFigured numbers.now taken c }
-    ensures { result ≡ legsIn (venueOf numbers.now) c a p }
+    ensures { result ≡ legs_in (venue_of numbers.now) c a p }
 {
     if c.quantity == 0 {
         return false;
@@ -55,7 +55,7 @@ pub fn leg_in(
     at: usize,
 ) -> usize
     requires { RightComplex numbers.old i }
-    ensures result_after { stage (venueOf numbers.new) out.new result ≡ seen out.old at does complex.legIn i a p k (venueOf numbers.old) }
+    ensures result_after { stage (venue_of numbers.new) out.new result ≡ seen out.old at does complex.leg_in i a p k (venue_of numbers.old) }
     ensures counts { SameCounts numbers.old numbers.new }
 {
     let c = places::complex_at(numbers, i);
@@ -82,7 +82,7 @@ fn units(n: u64, ratio: u8) -> u64
 
 // As many units as c has open and the sizes at the best prices fill; `taken` has the levels of these prices.
 fn units_in(taken: TakenLevels, c: Complex) -> u32
-    ensures { (v : Venue) → TakenOf taken c v.regular → result ≡ unitsIn v c }
+    ensures { (v : Venue) → TakenOf taken c v.regular → result ≡ units_in v c }
 {
     let one = taken.first;
     let two = taken.second;
@@ -93,7 +93,7 @@ fn units_in(taken: TakenLevels, c: Complex) -> u32
 // The order at place i legs in while the best prices allow it and fill a unit, in at most `quantity` turns.
 pub fn leg_in_all(numbers: &mut [u32], i: usize, quantity: u32, out: &mut [u8], at: usize) -> usize
     requires { RightComplex numbers.old i }
-    ensures result_after { stage (venueOf numbers.new) out.new result ≡ seen out.old at does repeat quantity (legInTurn i) (venueOf numbers.old) }
+    ensures result_after { stage (venue_of numbers.new) out.new result ≡ seen out.old at does repeat quantity (leg_in_turn i) (venue_of numbers.old) }
     ensures counts { SameCounts numbers.old numbers.new }
 {
     let mut pos = at;
@@ -119,7 +119,7 @@ pub fn leg_in_all(numbers: &mut [u32], i: usize, quantity: u32, out: &mut [u8], 
 // The order at place i crosses, touches and legs in, if neither of its series is closed. At a free place the function does nothing.
 pub fn work(numbers: &mut [u32], i: usize, out: &mut [u8], at: usize) -> usize
     requires { RightComplex numbers.old i }
-    ensures result_after { stage (venueOf numbers.new) out.new result ≡ seen out.old at does complex.work i (venueOf numbers.old) }
+    ensures result_after { stage (venue_of numbers.new) out.new result ≡ seen out.old at does complex.work i (venue_of numbers.old) }
     ensures counts { SameCounts numbers.old numbers.new }
 {
     let c = places::complex_at(numbers, i);

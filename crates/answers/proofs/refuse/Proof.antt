@@ -1,7 +1,7 @@
 -- `answers::refuse` meets its contract.
 use Rattle.rules.specs.Step.{answered}
 use mathlib.Core.Path.{◌≡◌, refl, sym, ap, ◌∙◌}
-use Rattle.places.specs.Layout.{venueOf}
+use Rattle.places.specs.Layout.{venue_of}
 use Rattle.answers.proofs.Answering.{refuse-law}
 use borrow.Author.Rules.{rules}
 use Rattle.answers.proofs.refuse.Statement.{statement}
@@ -15,7 +15,7 @@ unfolding answered
 returns c = let s = c.before.before.before.before.before.before.before.before in
     record {
       refused = refl;
-      staged = refuse-law (venueOf s.args.numbers.now) _ _ _ _ _ _ _
+      staged = refuse-law (venue_of s.args.numbers.now) _ _ _ _ _ _ _
           c.before.before.before.before.before.mask-of.ensures c.before.before.before.before.count_of.ensures
           c.before.before.emit-answer.ensures;
       dense = s.requires.dense;

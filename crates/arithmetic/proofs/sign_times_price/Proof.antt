@@ -3,7 +3,7 @@ use mathlib.Core.Path.{ap, ◌∙◌}
 use borrow.Author.Tests.{eq-eqb, ne_eqb}
 use native.Mathlib.Omega.{arith}
 use lib.IntN.{nat_abs, pos}
-use Rattle.rules.specs.Words.{signTimes}
+use Rattle.rules.specs.Words.{sign_times}
 use Rattle.rules.proofs.Integers.{abs_neg}
 use Rattle.rules.proofs.Machine.{neg-fits, neg-ok, cast-of}
 use borrow.Author.Rules.{rules}
@@ -11,14 +11,14 @@ use Rattle.arithmetic.proofs.sign_times_price.Statement.{statement}
 use Rattle.arithmetic.proofs.sign_times_price.Tie as tie
 
 returns : tie.Need-returns
-unfolding signTimes
+unfolding sign_times
 returns c = let e = cast-of c.before.args.price (omega arith) in (e ∙ simp (eq-eqb _ _ c.if1.true), omega (arith, ap nat_abs e))
 
 sub-result : tie.Need-overflow-sub-result
 sub-result c = neg-fits c.before.args.price (omega arith)
 
 returns-2 : tie.Need-returns-2
-unfolding signTimes
+unfolding sign_times
 returns-2 c = let e = neg-ok c.before.args.price (omega arith) in (e ∙ simp (ne_eqb _ _ c.if1.false), omega (arith, ap nat_abs e, abs_neg (pos c.before.args.price)))
 
 pub sign-times-price-spec : {M : Type 1} → statement M

@@ -5,7 +5,7 @@ use native.Mathlib.Nat.{mul-le-mul}
 use borrow.Author.Tests.{eq-eqb, ne_eqb}
 use native.Mathlib.Omega.{arith}
 use lib.IntN.{nat_abs, pos}
-use Rattle.rules.specs.Words.{signTimes}
+use Rattle.rules.specs.Words.{sign_times}
 use Rattle.rules.specs.Prices.{weighed}
 use Rattle.rules.proofs.Integers.{abs_neg}
 use Rattle.rules.proofs.Machine.{neg-fits, neg-ok, cast-of}
@@ -25,7 +25,7 @@ cast-result : tie.Need-overflow-cast-result
 cast-result c = let m = product c.before.args.ratio c.before.args.price (omega arith) (omega arith) in search rules
 
 returns : tie.Need-returns
-unfolding weighed signTimes
+unfolding weighed sign_times
 returns c =
     let m = product c.before.args.ratio c.before.args.price (omega arith) (omega arith) in
     let e = cast-of (c.before.args.ratio * c.before.args.price) (omega arith) in
@@ -40,7 +40,7 @@ sub-result c =
     neg-fits (c.before.args.ratio * c.before.args.price) (omega arith)
 
 returns-2 : tie.Need-returns-2
-unfolding weighed signTimes
+unfolding weighed sign_times
 returns-2 c =
     let m = product c.before.args.ratio c.before.args.price (omega arith) (omega arith) in
     let e = neg-ok (c.before.args.ratio * c.before.args.price) (omega arith) in

@@ -4,8 +4,8 @@ use mathlib.Core.Bool.{false}
 use Prim.Native.Nat.{ℕ, ◌-◌, ◌≤◌, ◌<◌}
 use native.Mathlib.Omega.{arith}
 use Rattle.rules.specs.declared.Regular.{Regular}
-use Rattle.rules.specs.Prices.{showsFor}
-use Rattle.places.specs.Layout.{regularIn, regularsUsed}
+use Rattle.rules.specs.Prices.{shows_for}
+use Rattle.places.specs.Layout.{regular_in, regulars_used}
 use Rattle.places.proofs.Parts.{regulars-few}
 use Rattle.book.proofs.FirstPlace.{passed_on}
 use Rattle.book.proofs.PicksLaws.{for-key}
@@ -15,10 +15,10 @@ use Rattle.book.proofs.first_for.Statement.{statement}
 use Rattle.book.proofs.first_for.Tie as tie
 
 abbrev invariant-loop : tie.invariant-loop
-invariant-loop b series side price key n k₀ k = (k ≤ regularsUsed b) × ((j : ℕ) → j < k → showsFor series side price (regularIn b j) ≡ false)
+invariant-loop b series side price key n k₀ k = (k ≤ regulars_used b) × ((j : ℕ) → j < k → shows_for series side price (regular_in b j) ≡ false)
 
 abbrev decreases-loop : tie.decreases-loop
-decreases-loop b series side price key n k₀ k = regularsUsed b - k
+decreases-loop b series side price key n k₀ k = regulars_used b - k
 
 loop-holds : tie.Need-loop-init invariant-loop decreases-loop
 loop-holds c = (search rules, λ j q. absurd (omega arith))
@@ -36,7 +36,7 @@ loop-again c =
     let p5 = p3.before.before in
     let p7 = p5.before.before in (
       omega arith,
-      passed_on (showsFor p7.args.series p7.args.side p7.args.price) (regularIn p7.args.numbers.now) _ p3.loop.invariant.1
+      passed_on (shows_for p7.args.series p7.args.side p7.args.price) (regular_in p7.args.numbers.now) _ p3.loop.invariant.1
           (for-key p7.args.series p7.args.side p7.args.price _ (λ e. c.if1.true (p1.key-at.ensures ∙ e ∙ sym p5.place_of.ensures))),
     )
 
@@ -57,8 +57,8 @@ loop-again-2 c =
     let p6 = p2.before.before.before.before in
     let p10 = p6.before.before.before.before in (
       omega arith,
-      passed_on (showsFor p10.args.series p10.args.side p10.args.price) (regularIn p10.args.numbers.now) _ p6.loop.invariant.1
-          (ap (λ (o : Regular). showsFor p10.args.series p10.args.side p10.args.price o) (sym p2.regular-at.ensures) ∙ sym c.before.shows-for.ensures ∙ c.if2.false),
+      passed_on (shows_for p10.args.series p10.args.side p10.args.price) (regular_in p10.args.numbers.now) _ p6.loop.invariant.1
+          (ap (λ (o : Regular). shows_for p10.args.series p10.args.side p10.args.price o) (sym p2.regular-at.ensures) ∙ sym c.before.shows-for.ensures ∙ c.if2.false),
     )
 
 returns-2 : tie.Need-returns-2 invariant-loop decreases-loop

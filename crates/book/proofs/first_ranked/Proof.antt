@@ -3,19 +3,19 @@ use mathlib.Core.Path.{◌≡◌, sym, ap, ◌∙◌}
 use Prim.Native.Nat.{◌≤◌}
 use native.Mathlib.Omega.{arith}
 use borrow.Author.Tests.{not-true, not-false}
-use Rattle.rules.specs.Words.{placeOf}
-use Rattle.rules.specs.Order.{isMet}
-use Rattle.places.specs.Layout.{regularsUsed}
+use Rattle.rules.specs.Words.{place_of}
+use Rattle.rules.specs.Order.{is_met}
+use Rattle.places.specs.Layout.{regulars_used}
 use Rattle.places.proofs.Parts.{regulars-few}
 use Rattle.book.specs.Picks.{pick_of}
 use Rattle.book.proofs.PicksLaws.{met-key}
-use Rattle.book.proofs.Ranking.{metFrom, met_start, met-past, met-join, met_all}
+use Rattle.book.proofs.Ranking.{met_from, met_start, met-past, met-join, met_all}
 use borrow.Author.Rules.{rules}
 use Rattle.book.proofs.first_ranked.Statement.{statement}
 use Rattle.book.proofs.first_ranked.Tie as tie
 
 abbrev invariant-loop : tie.invariant-loop
-invariant-loop b series side price key best₀ i₀ best i = (i ≤ regularsUsed b) × (best ≡ pick_of (metFrom b series side price i))
+invariant-loop b series side price key best₀ i₀ best i = (i ≤ regulars_used b) × (best ≡ pick_of (met_from b series side price i))
 
 abbrev decreases-loop : tie.decreases-loop
 decreases-loop b series side price key best₀ i₀ best i = i
@@ -33,7 +33,7 @@ loop-again c =
       omega (arith, l.invariant.0),
       met-past a.numbers.now a.series a.side a.price _ _ c.before.before.loop-test.true l.invariant.0 l.invariant.1
           (met-key a.series a.side a.price _
-          (λ e. c.if1.true (c.before.key-at.ensures ∙ e ∙ ap (placeOf a.series)
+          (λ e. c.if1.true (c.before.key-at.ensures ∙ e ∙ ap (place_of a.series)
           (sym c.before.before.before.before.before.before.opposite-of.ensures)
           ∙ sym c.before.before.before.before.before.place_of.ensures))),
     )
@@ -47,7 +47,7 @@ loop-again-2 c =
     let a = c.before.before.before.before.before.before.before.before.before.before.before.args in (
       omega (arith, l.invariant.0),
       met-past a.numbers.now a.series a.side a.price _ _ c.before.before.before.before.before.loop-test.true l.invariant.0 l.invariant.1
-          (ap (isMet a.series a.side a.price) (sym c.before.before.regular-at.ensures) ∙ sym c.before.is-met.ensures ∙ not-true _ c.if2.true),
+          (ap (is_met a.series a.side a.price) (sym c.before.before.regular-at.ensures) ∙ sym c.before.is-met.ensures ∙ not-true _ c.if2.true),
     )
 
 loop-again-3 : tie.Need-loop-preserved-3 invariant-loop decreases-loop

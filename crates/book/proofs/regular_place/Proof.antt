@@ -3,7 +3,7 @@ use mathlib.Core.Path.{sym, ◌∙◌}
 use Prim.Native.Nat.{ℕ, ◌-◌, ◌≤◌, ◌<◌}
 use native.Mathlib.Omega.{arith}
 use native.Mathlib.Decide.{dec_lt}
-use Rattle.places.specs.Layout.{regularIn, regularsUsed}
+use Rattle.places.specs.Layout.{regular_in, regulars_used}
 use Rattle.places.proofs.Parts.{regulars-few}
 use Rattle.book.proofs.Earliest.{lower-before, higher-after, id-found, id-none}
 use borrow.Author.Rules.{rules}
@@ -13,7 +13,7 @@ use Rattle.book.proofs.regular_place.Tie as tie
 -- the ids below `low` are lower, and those from `high` on are higher
 abbrev invariant-loop : tie.invariant-loop
 invariant-loop b id low₀ high₀ low high =
-    (high ≤ regularsUsed b) × ((j : ℕ) → j < low → (regularIn b j).id < id) × ((j : ℕ) → high ≤ j → j < regularsUsed b → id < (regularIn b j).id)
+    (high ≤ regulars_used b) × ((j : ℕ) → j < low → (regular_in b j).id < id) × ((j : ℕ) → high ≤ j → j < regulars_used b → id < (regular_in b j).id)
 
 abbrev decreases-loop : tie.decreases-loop
 decreases-loop b id low₀ high₀ low high = high - low

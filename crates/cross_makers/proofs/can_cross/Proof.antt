@@ -2,8 +2,8 @@
 use mathlib.Core.Path.{ap, ◌∙◌}
 use native.Mathlib.Omega.{arith}
 use lib.IntN.{nat_abs}
-use Rattle.rules.specs.Prices.{inBand}
-use Rattle.rules.specs.Complex.{respectsLegs}
+use Rattle.rules.specs.Prices.{in_band}
+use Rattle.rules.specs.Complex.{respects_legs}
 use Rattle.rules.proofs.Machine.{back}
 use Rattle.cross_makers.proofs.Candidates.{off, on, cross-free, cross-aside, cross-apart, cross-out, cross-far, cross-above, cross-last}
 use borrow.Author.Rules.{rules}
@@ -45,7 +45,7 @@ returns-4 c =
     (on _ _ c.before.before.before.before.before.before.before.is-reversed.ensures
     c.before.before.before.before.before.before.if2.false)
     (on _ _ c.before.before.before.before.before.limits-meet.ensures c.before.before.before.before.if3.false)
-    (off _ _ (c.before.in-band.ensures ∙ ap (inBand _ a.c) (back {z = u.result} (record { sfits = u.type-inv }) ∙ u.ensures.0)) c.if4.true)
+    (off _ _ (c.before.in-band.ensures ∙ ap (in_band _ a.c) (back {z = u.result} (record { sfits = u.type-inv }) ∙ u.ensures.0)) c.if4.true)
 
 taken-at-requires-2 : tie.Need-taken-at-requires-2
 taken-at-requires-2 c κs = let p = c.before.before.before.before.before.before.before.before.before.before.before.before.requires in
@@ -73,9 +73,9 @@ returns-5 c =
     c.before.before.before.before.before.before.before.before.before.before.if2.false)
     (on _ _ c.before.before.before.before.before.before.before.before.before.limits-meet.ensures
     c.before.before.before.before.before.before.before.before.if3.false)
-    (on _ _ (c.before.before.before.before.before.in-band.ensures ∙ ap (inBand _ a.c)
+    (on _ _ (c.before.before.before.before.before.in-band.ensures ∙ ap (in_band _ a.c)
     (back {z = u.result} (record { sfits = u.type-inv }) ∙ u.ensures.0)) c.before.before.before.before.if4.false)
-    (off _ _ (c.before.in-band2.ensures ∙ ap (inBand _ a.m) (back {z = w.result} (record { sfits = w.type-inv }) ∙ w.ensures.0)) c.if5.true)
+    (off _ _ (c.before.in-band2.ensures ∙ ap (in_band _ a.m) (back {z = w.result} (record { sfits = w.type-inv }) ∙ w.ensures.0)) c.if5.true)
 
 returns-6 : tie.Need-returns-6
 returns-6 c =
@@ -88,11 +88,11 @@ returns-6 c =
     c.before.before.before.before.before.before.before.before.before.before.before.before.if2.false)
     (on _ _ c.before.before.before.before.before.before.before.before.before.before.before.limits-meet.ensures
     c.before.before.before.before.before.before.before.before.before.before.if3.false)
-    (on _ _ (c.before.before.before.before.before.before.before.in-band.ensures ∙ ap (inBand _ a.c)
+    (on _ _ (c.before.before.before.before.before.before.before.in-band.ensures ∙ ap (in_band _ a.c)
     (back {z = u.result} (record { sfits = u.type-inv }) ∙ u.ensures.0)) c.before.before.before.before.before.before.if4.false)
-    (on _ _ (c.before.before.before.in-band2.ensures ∙ ap (inBand _ a.m) (back {z = w.result} (record { sfits = w.type-inv }) ∙ w.ensures.0)) c.before.before.if5.false)
+    (on _ _ (c.before.before.before.in-band2.ensures ∙ ap (in_band _ a.m) (back {z = w.result} (record { sfits = w.type-inv }) ∙ w.ensures.0)) c.before.before.if5.false)
     (off _ _ (c.before.respects-legs.ensures _ c.before.before.before.before.before.before.before.before.taken_at.ensures
-    ∙ ap (respectsLegs _ a.c) (back {z = u.result} (record { sfits = u.type-inv }) ∙ u.ensures.0)) c.if6.true)
+    ∙ ap (respects_legs _ a.c) (back {z = u.result} (record { sfits = u.type-inv }) ∙ u.ensures.0)) c.if6.true)
 
 returns-7 : tie.Need-returns-7
 returns-7 c =
@@ -104,13 +104,13 @@ returns-7 c =
     (on _ _ c.before.before.before.before.before.before.before.before.before.before.before.before.before.before.is-reversed.ensures c.before.before.before.before.before.before.before.before.before.before.before.before.before.if2.false)
     (on _ _ c.before.before.before.before.before.before.before.before.before.before.before.before.limits-meet.ensures
     c.before.before.before.before.before.before.before.before.before.before.before.if3.false)
-    (on _ _ (c.before.before.before.before.before.before.before.before.in-band.ensures ∙ ap (inBand _ a.c)
+    (on _ _ (c.before.before.before.before.before.before.before.before.in-band.ensures ∙ ap (in_band _ a.c)
     (back {z = u.result} (record { sfits = u.type-inv }) ∙ u.ensures.0)) c.before.before.before.before.before.before.before.if4.false)
-    (on _ _ (c.before.before.before.before.in-band2.ensures ∙ ap (inBand _ a.m) (back {z = w.result} (record { sfits = w.type-inv }) ∙ w.ensures.0)) c.before.before.before.if5.false)
+    (on _ _ (c.before.before.before.before.in-band2.ensures ∙ ap (in_band _ a.m) (back {z = w.result} (record { sfits = w.type-inv }) ∙ w.ensures.0)) c.before.before.before.if5.false)
     (on _ _ (c.before.before.respects-legs.ensures _
-    c.before.before.before.before.before.before.before.before.before.taken_at.ensures ∙ ap (respectsLegs _ a.c)
+    c.before.before.before.before.before.before.before.before.before.taken_at.ensures ∙ ap (respects_legs _ a.c)
     (back {z = u.result} (record { sfits = u.type-inv }) ∙ u.ensures.0)) c.before.if6.false) _
-    (c.respects-legs2.ensures _ c.before.before.before.before.before.taken-at2.ensures ∙ ap (respectsLegs _ a.m) (back {z = w.result} (record { sfits = w.type-inv }) ∙ w.ensures.0))
+    (c.respects-legs2.ensures _ c.before.before.before.before.before.taken-at2.ensures ∙ ap (respects_legs _ a.m) (back {z = w.result} (record { sfits = w.type-inv }) ∙ w.ensures.0))
 
 pub can-cross-spec : {M : Type 1} → statement M
 can-cross-spec =

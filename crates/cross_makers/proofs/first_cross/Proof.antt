@@ -4,13 +4,13 @@ use mathlib.Core.Path.{◌≡◌, sym, ap, subst, ◌∙◌}
 use Prim.Native.Nat.{ℕ, ◌-◌, ◌≤◌}
 use native.Mathlib.Omega.{arith}
 use Rattle.rules.specs.declared.Complex.{Complex}
-use Rattle.rules.specs.Base.{ranked, firstFrom}
-use Rattle.rules.specs.Complex.{crosses, limitThenId}
-use Rattle.places.specs.Layout.{upto, complexesUsed, complexIn, venueOf}
+use Rattle.rules.specs.Base.{ranked, first_from}
+use Rattle.rules.specs.Complex.{crosses, limit_then_id}
+use Rattle.places.specs.Layout.{upto, complexes_used, complex_in, venue_of}
 use Rattle.places.proofs.Parts.{complexes-few}
 use Rattle.levels.specs.Grid.{LegsIn}
 use Rattle.prices.proofs.Prices.{legs-in}
-use Rattle.cross_makers.specs.Picks.{pickedOf}
+use Rattle.cross_makers.specs.Picks.{picked_of}
 use Rattle.levels.proofs.Scanning.{scan-start, scan-past, scan-join}
 use Rattle.cross_makers.proofs.Candidates.{off, on, first-crossed}
 use Rattle.cross_makers.proofs.Keys.{cross-key}
@@ -18,17 +18,17 @@ use Rattle.cross_makers.proofs.first_cross.Statement.{statement}
 use Rattle.cross_makers.proofs.first_cross.Tie as tie
 
 abbrev invariant-loop : tie.invariant-loop
-invariant-loop b c straight turned best₀ i₀ best i = (i ≤ complexesUsed b) × (pickedOf best ≡ firstFrom (crosses (venueOf b) c) limitThenId i (upto (complexIn b) i (complexesUsed b - i)))
+invariant-loop b c straight turned best₀ i₀ best i = (i ≤ complexes_used b) × (picked_of best ≡ first_from (crosses (venue_of b) c) limit_then_id i (upto (complex_in b) i (complexes_used b - i)))
 
 abbrev decreases-loop : tie.decreases-loop
 decreases-loop b c straight turned best₀ i₀ best i = i
 
 loop-holds : tie.Need-loop-init invariant-loop decreases-loop
-unfolding pickedOf
+unfolding picked_of
 loop-holds c =
     let e = c.complexes-used.ensures.0 in
     let a = c.before.before.before.before.args in
-    (omega (arith, e), scan-start (crosses (venueOf a.numbers.now) a.c) limitThenId (complexIn a.numbers.now) _ _ (omega (arith, e)))
+    (omega (arith, e), scan-start (crosses (venue_of a.numbers.now) a.c) limit_then_id (complex_in a.numbers.now) _ _ (omega (arith, e)))
 
 cross-key-at-requires : tie.Need-cross-key-at-requires invariant-loop decreases-loop
 cross-key-at-requires c κs = let z = complexes-few c.before.before.before.before.before.before.args.numbers.now in
@@ -40,10 +40,10 @@ loop-again c =
     let a = c.before.before.before.before.before.before.before.before.before.args in
     let h = c.before.before.before.loop-test.true in (
       omega (arith, l.invariant.0),
-      scan-past (crosses (venueOf a.numbers.now) a.c) limitThenId (complexIn a.numbers.now) l.i (complexesUsed a.numbers.now) h l.invariant.0 _ l.invariant.1
-          (cross-key a.c (complexIn a.numbers.now (l.i - 1)) (legs-in a.numbers.now (l.i - 1)) _ _ _ c.before.before.cross-key-at.ensures
+      scan-past (crosses (venue_of a.numbers.now) a.c) limit_then_id (complex_in a.numbers.now) l.i (complexes_used a.numbers.now) h l.invariant.0 _ l.invariant.1
+          (cross-key a.c (complex_in a.numbers.now (l.i - 1)) (legs-in a.numbers.now (l.i - 1)) _ _ _ c.before.before.cross-key-at.ensures
           c.before.before.before.before.before.before.before.facing-key.ensures
-          c.before.before.before.before.before.before.facing-key2.ensures (off _ _ c.before.is-either.ensures c.if1.true) (venueOf a.numbers.now)),
+          c.before.before.before.before.before.before.facing-key2.ensures (off _ _ c.before.is-either.ensures c.if1.true) (venue_of a.numbers.now)),
     )
 
 complex-at-requires : tie.Need-complex-at-requires invariant-loop decreases-loop
@@ -60,8 +60,8 @@ loop-again-2 c =
     let a = c.before.before.before.before.before.before.before.before.before.before.before.before.args in
     let h = c.before.before.before.before.before.before.loop-test.true in (
       omega (arith, l.invariant.0),
-      scan-past (crosses (venueOf a.numbers.now) a.c) limitThenId (complexIn a.numbers.now) l.i (complexesUsed a.numbers.now) h l.invariant.0 _ l.invariant.1
-          (ap (crosses (venueOf a.numbers.now) a.c) (sym c.before.before.complex-at.ensures) ∙ off _ _ c.before.can-cross.ensures c.if2.true),
+      scan-past (crosses (venue_of a.numbers.now) a.c) limit_then_id (complex_in a.numbers.now) l.i (complexes_used a.numbers.now) h l.invariant.0 _ l.invariant.1
+          (ap (crosses (venue_of a.numbers.now) a.c) (sym c.before.before.complex-at.ensures) ∙ off _ _ c.before.can-cross.ensures c.if2.true),
     )
 
 loop-again-3 : tie.Need-loop-preserved-3 invariant-loop decreases-loop
@@ -71,9 +71,9 @@ loop-again-3 c =
     let h = c.before.before.before.before.before.before.before.loop-test.true in
     let e = c.before.before.before.complex-at.ensures in (
       omega (arith, l.invariant.0),
-      scan-join (crosses (venueOf a.numbers.now) a.c) limitThenId (complexIn a.numbers.now) l.i (complexesUsed a.numbers.now) h l.invariant.0 _ l.invariant.1 _
-          (ap (crosses (venueOf a.numbers.now) a.c) (sym e) ∙ on _ _ c.before.before.can-cross.ensures c.before.if2.false)
-          (c.better-maker.ensures ∙ ap (λ (m : Complex). ranked limitThenId (l.i - 1) m (pickedOf l.best)) e),
+      scan-join (crosses (venue_of a.numbers.now) a.c) limit_then_id (complex_in a.numbers.now) l.i (complexes_used a.numbers.now) h l.invariant.0 _ l.invariant.1 _
+          (ap (crosses (venue_of a.numbers.now) a.c) (sym e) ∙ on _ _ c.before.before.can-cross.ensures c.before.if2.false)
+          (c.better-maker.ensures ∙ ap (λ (m : Complex). ranked limit_then_id (l.i - 1) m (picked_of l.best)) e),
     )
 
 returns : tie.Need-returns invariant-loop decreases-loop
@@ -82,7 +82,7 @@ returns c =
     let a = c.before.before.before.before.before.before.args in
     let z : l.i ≡ 0 = search rules in
     l.invariant.1
-    ∙ ap (λ (k : ℕ). firstFrom (crosses (venueOf a.numbers.now) a.c) limitThenId k (upto (complexIn a.numbers.now) k (complexesUsed a.numbers.now - k))) z
+    ∙ ap (λ (k : ℕ). first_from (crosses (venue_of a.numbers.now) a.c) limit_then_id k (upto (complex_in a.numbers.now) k (complexes_used a.numbers.now - k))) z
     ∙ first-crossed a.numbers.now a.c
 
 pub first-cross-spec : {M : Type 1} → statement M

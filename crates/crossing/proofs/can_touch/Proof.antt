@@ -1,6 +1,6 @@
 -- `crossing::can_touch` meets its contract.
 use mathlib.Core.Path.{◌∙◌}
-use Rattle.places.specs.Layout.{venueOf}
+use Rattle.places.specs.Layout.{venue_of}
 use Rattle.levels.proofs.Sides.{opposite-in, first-best, second-best}
 use Rattle.rules.proofs.Machine.{back}
 use Rattle.crossing.proofs.Touches.{touch-free, touch-none1, touch-none2, touch-net}
@@ -17,7 +17,7 @@ best-own-requires c κs =
     let a = c.before.before.before.before.before.args in
     record {
       whole = p.whole;
-      best = first-best (venueOf a.numbers.now) a.taken a.c p.taken _ c.opposite-of.ensures;
+      best = first-best (venue_of a.numbers.now) a.taken a.c p.taken _ c.opposite-of.ensures;
       series = p.legs.first;
       side = rw c.opposite-of.ensures (opposite-in _);
     }
@@ -32,7 +32,7 @@ best-own-requires-2 c κs =
     let a = c.before.before.before.before.before.before.before.before.before.args in
     record {
       whole = p.whole;
-      best = second-best (venueOf a.numbers.now) a.taken a.c p.taken _ c.opposite-of2.ensures;
+      best = second-best (venue_of a.numbers.now) a.taken a.c p.taken _ c.opposite-of2.ensures;
       series = p.legs.second;
       side = rw c.opposite-of2.ensures (opposite-in _);
     }

@@ -1,7 +1,7 @@
 -- `crossing::touch` meets its contract.
 use mathlib.Core.Path.{refl, sym, subst, ◌∙◌}
 use native.Mathlib.Omega.{arith}
-use Rattle.rules.specs.Words.{opposite, placeOf}
+use Rattle.rules.specs.Words.{opposite, place_of}
 use Rattle.places.proofs.Parts.{complexes-few, complex-at}
 use Rattle.levels.specs.Grid.{LegsIn}
 use Rattle.prices.proofs.Prices.{legs-in}
@@ -13,7 +13,7 @@ use Rattle.crossing.proofs.touch.Tie as tie
 
 complex-at-requires : tie.Need-complex-at-requires
 complex-at-requires c κs = let z = complexes-few c.before.before.before.args.numbers.now in
-    record { whole = c.before.before.before.requires.whole; place = omega (arith, c.before.before.before.requires.inUse) }
+    record { whole = c.before.before.before.requires.whole; place = omega (arith, c.before.before.before.requires.in_use) }
 
 taken-at-requires : tie.Need-taken-at-requires
 taken-at-requires c κs =
@@ -34,7 +34,7 @@ returns c =
     let p5 = c.before.before.before.before.before in
     let s = p5.before.before.before.before in
     let a = s.args in (
-      touch-not a.i _ _ (p5.complex-at.ensures ∙ sym (complex-at a.numbers.now a.i s.requires.inUse)) _ _ (off _ _ c.before.can-touch.ensures c.if1.true),
+      touch-not a.i _ _ (p5.complex-at.ensures ∙ sym (complex-at a.numbers.now a.i s.requires.in_use)) _ _ (off _ _ c.before.can-touch.ensures c.if1.true),
       record { regulars = refl; complexes = refl; right = λ h. h },
     )
 
@@ -42,7 +42,7 @@ touch-cause-requires : tie.Need-touch-cause-requires
 touch-cause-requires c κs = can-touch-requires c.before.before.before κs
 
 remove-at-requires : tie.Need-remove-at-requires
-unfolding placeOf opposite
+unfolding place_of opposite
 remove-at-requires c κs =
     let p13 = c.before.before.before.before.before.before.before.before.before.before.before.before.before in
     let s = p13.before.before.before.before in
@@ -61,7 +61,7 @@ returns-2 c =
     let p18 = p13.before.before.before.before.before in
     let s = p18.before.before.before.before in
     let a = s.args in (
-      touch-both a.i _ _ (p18.complex-at.ensures ∙ sym (complex-at a.numbers.now a.i s.requires.inUse)) _ _ _ _ _ (on _ _ p13.before.can-touch.ensures p13.if1.false) _
+      touch-both a.i _ _ (p18.complex-at.ensures ∙ sym (complex-at a.numbers.now a.i s.requires.in_use)) _ _ _ _ _ (on _ _ p13.before.can-touch.ensures p13.if1.false) _
           p11.touch-cause.ensures _ _ _ _ p10.opposite-of.ensures p9.place_of.ensures p8.opposite-of2.ensures p7.place-of2.ensures p4.remove-at.ensures.0,
       p4.remove-at.ensures.1,
     )

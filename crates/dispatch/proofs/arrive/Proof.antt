@@ -4,7 +4,7 @@ use Prim.Native.Nat.{◌+◌, ◌-◌, ◌*◌}
 use native.Mathlib.Omega.{arith}
 use borrow.Author.Tests.{not-true, not-false}
 use borrow.Author.Rules.{rules}
-use Rattle.lanes.specs.Memory.{laneSize}
+use Rattle.lanes.specs.Memory.{lane_size}
 use Rattle.lanes.proofs.Bytes.{part_length}
 use Rattle.dispatch.proofs.CallWays.{part_count, checked-all, arrive_none, arrive-unsound, arrive-beyond, arrive-full, arrive-long, arrive-taken}
 use Rattle.dispatch.proofs.arrive.Statement.{statement}
@@ -44,9 +44,9 @@ join-requires : tie.Need-join-requires
 join-requires c κs = let m = c.before.before.before.before.before.before.before.before.before.before.before.before.args.layer.now in
     let v = c.before.before.before.before.before.before.before.before.before.before.before.before.args.venue in
     let size = c.before.before.before.before.before.before.before.before.before.if1.false in
-    let small = c.before.before.before.before.before.if3.false in let k = laneSize * v + laneSize - laneSize * v in
+    let small = c.before.before.before.before.before.if3.false in let k = lane_size * v + lane_size - lane_size * v in
     let e = c.before.before.before.u8-at.ensures in let h = c.before.before.if4.false in let n = part_count m v k (omega arith) in
-    record { whole = part_length m (laneSize * v) k (omega arith) ∙ omega arith; room = omega arith; short = c.before.if5.false }
+    record { whole = part_length m (lane_size * v) k (omega arith) ∙ omega arith; room = omega arith; short = c.before.if5.false }
 
 returns-6 : tie.Need-returns-6
 returns-6 c = let v = c.before.before.before.before.before.before.before.before.before.before.before.before.before.before.before.args.venue in let e = c.before.before.before.before.before.before.u8-at.ensures in
@@ -55,7 +55,7 @@ returns-6 c = let v = c.before.before.before.before.before.before.before.before.
     (checked-all c.before.before.before.before.before.before.before.before.before.before.before.before.before.before.before.args.layer.now 4 _ c.before.before.before.before.before.before.before.before.before.before.layer-sound.ensures refl ∙ not-false _
     c.before.before.before.before.before.before.before.before.before.if2.false)
     c.before.before.before.before.before.before.before.before.if3.false (omega arith) c.before.before.before.before.if5.false
-    (laneSize * v + laneSize - laneSize * v) c.before.before.join.new.0 (omega arith) c.before.before.join.ensures
+    (lane_size * v + lane_size - lane_size * v) c.before.before.join.new.0 (omega arith) c.before.before.join.ensures
 
 pub arrive-spec : {M : Type 1} → statement M
 arrive-spec =

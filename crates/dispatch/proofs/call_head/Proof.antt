@@ -5,7 +5,7 @@ use lib.ListN.{length, take}
 use lib.Seq.{length-take-le}
 use native.Mathlib.Omega.{arith}
 use borrow.Author.Rules.{rules}
-use Rattle.venue_bytes.specs.Held.{venueSize}
+use Rattle.venue_bytes.specs.Held.{venue_size}
 use Rattle.lanes.specs.Memory.{places_at}
 use Rattle.lanes.proofs.MemoryLaws.{head-copied}
 use Rattle.dispatch.proofs.LaneServed.{head-left}
@@ -15,7 +15,7 @@ use Rattle.dispatch.proofs.call_head.Tie as tie
 slice-aggregate-message-on-bytes : tie.Need-slice-aggregate-message-on-bytes
 slice-aggregate-message-on-bytes c =
     let s = c.before.before.before.before.before.before.before.before.before.before.before.before in let p = s.requires.whole in
-    sym (length-take-le venueSize s.args.lane.now (omega arith))
+    sym (length-take-le venue_size s.args.lane.now (omega arith))
 
 slice-aggregate-message-on-bytes-2 : tie.Need-slice-aggregate-message-on-bytes-2
 slice-aggregate-message-on-bytes-2 c =
@@ -25,7 +25,7 @@ slice-aggregate-message-on-bytes-2 c =
 message-on-bytes-requires : tie.Need-message-on-bytes-requires
 message-on-bytes-requires c κs =
     let s = c.before.before.before.before.before.before.before.before.before.before.before.before.before.before in let p = s.requires.whole in
-    length-take-le venueSize s.args.lane.now (omega arith)
+    length-take-le venue_size s.args.lane.now (omega arith)
 
 returns : tie.Need-returns
 returns c =

@@ -1,12 +1,12 @@
 -- `dispatch::idle` meets its contract.
 use mathlib.Core.Path.{refl}
 use borrow.Author.Rules.{rules}
-use Rattle.rules.specs.Records.{sheet, encodeAll}
+use Rattle.rules.specs.Records.{sheet, encode_all}
 use Rattle.dispatch.proofs.idle.Statement.{statement}
 use Rattle.dispatch.proofs.idle.Tie as tie
 
 returns : tie.Need-returns
-unfolding sheet encodeAll
+unfolding sheet encode_all
 returns c = (refl, c.before.before.zero-from.ensures)
 
 pub idle_spec : {M : Type 1} → statement M

@@ -5,7 +5,7 @@ use lib.ListN.{length-set}
 use native.Mathlib.Omega.{arith}
 use borrow.Author.Rules.{rules}
 use Rattle.venue_bytes.proofs.Rows.{Written, written_none}
-use Rattle.lanes.specs.Memory.{laneSize, last_at}
+use Rattle.lanes.specs.Memory.{lane_size, last_at}
 use Rattle.lanes.proofs.Bytes.{part_length}
 use Rattle.dispatch.proofs.FreshLayer.{fresh_row, four, fresh-room, fresh-next, fresh-all, fresh-none}
 use Rattle.dispatch.proofs.legging_layer_fresh.Statement.{statement}
@@ -31,13 +31,13 @@ part-fresh-lane-end c = omega (arith, c.before.before.if1.false, fresh-room _ c.
 
 fresh-lane-requires : tie.Need-fresh-lane-requires invariant-loop decreases-loop
 fresh-lane-requires c κs = let i = c.before.before.loop.i in let r = fresh-room _ c.before.before.before.if1.false _ i
-    c.before.before.loop.invariant in let e = c.before.before.before.if1.false in part_length c.before.before.loop.layer (laneSize * i)
-    (laneSize * i + laneSize - laneSize * i) (omega arith) ∙ omega arith
+    c.before.before.loop.invariant in let e = c.before.before.before.if1.false in part_length c.before.before.loop.layer (lane_size * i)
+    (lane_size * i + lane_size - lane_size * i) (omega arith) ∙ omega arith
 
 loop-again : tie.Need-loop-preserved invariant-loop decreases-loop
 loop-again c = let i = c.before.before.before.before.before.loop.i in
     fresh-next _ c.before.before.before.before.before.before.if1.false c.before.before.before.before.before.loop.layer i
-    c.before.before.before.before.before.loop.invariant c.before.before.fresh-lane.new.0 (laneSize * i + laneSize - laneSize * i)
+    c.before.before.before.before.before.loop.invariant c.before.before.fresh-lane.new.0 (lane_size * i + lane_size - lane_size * i)
     c.before.before.before.before.loop-test.true (omega arith) c.before.before.fresh-lane.ensures
 
 slice-write-layer : tie.Need-slice-write-layer invariant-loop decreases-loop

@@ -5,8 +5,8 @@ use lib.ListN.{length}
 use native.Mathlib.Omega.{arith}
 use borrow.Author.Tests.{not-true, not-false}
 use borrow.Author.Rules.{rules}
-use Rattle.lanes.specs.Memory.{laneSize, layerFrom}
-use Rattle.dispatch.specs.Hosts.{turnReplyOf}
+use Rattle.lanes.specs.Memory.{lane_size, layer_from}
+use Rattle.dispatch.specs.Hosts.{turn_reply_of}
 use Rattle.lanes.proofs.ChecksLaws.{fails-unsound}
 use Rattle.dispatch.proofs.CallWays.{checked-all, Serves, small, lent-size, lent-some, lent-few, lent-short, turn-none, turn-unsound, turn-idle, turn-ended, turn-serves}
 use Rattle.dispatch.proofs.turn.Statement.{statement}
@@ -24,21 +24,21 @@ serves c = record {
 
 returns : tie.Need-returns
 returns c = let start = c.before.before.before.before.before.before.before in let k = c.before.before.idle in
-    ap (λ r. turnReplyOf r start.args.layer.now k.new.1.0) k.ensures.0 ∙ turn-none start.args.layer.now
+    ap (λ r. turn_reply_of r start.args.layer.now k.new.1.0) k.ensures.0 ∙ turn-none start.args.layer.now
     (length start.args.report.now) _ c.before.before.before.before.if1.true k.ensures.1
 
 returns-2 : tie.Need-returns-2
 returns-2 c = let start = c.before.before.before.before.before.before.before.before.before.before.before.before in
-    let k = c.before.before.idle2 in ap (λ r. turnReplyOf r start.args.layer.now k.new.1.0) k.ensures.0 ∙ turn-unsound
+    let k = c.before.before.idle2 in ap (λ r. turn_reply_of r start.args.layer.now k.new.1.0) k.ensures.0 ∙ turn-unsound
     start.args.layer.now c.before.before.before.before.before.before.before.before.before.if1.false
     (length start.args.report.now) _
-    (fails-unsound c.before.before.before.before.before.before.before.next-waiting.result (layerFrom start.args.layer.now)
+    (fails-unsound c.before.before.before.before.before.before.before.next-waiting.result (layer_from start.args.layer.now)
     (sym c.before.before.before.before.before.layer-sound.ensures ∙ not-true _ c.before.before.before.before.if2.true))
     k.ensures.1
 
 returns-3 : tie.Need-returns-3
 returns-3 c = let start = c.before.before.before.before.before.before.before.before.before.before.before.before.before in
-    let k = c.before.before.idle3 in ap (λ r. turnReplyOf r start.args.layer.now k.new.1.0) k.ensures.0 ∙ turn-idle
+    let k = c.before.before.idle3 in ap (λ r. turn_reply_of r start.args.layer.now k.new.1.0) k.ensures.0 ∙ turn-idle
     start.args.layer.now c.before.before.before.before.before.before.before.before.before.before.if1.false
     (length start.args.report.now) _
     (checked-all start.args.layer.now c.before.before.before.before.before.before.before.before.next-waiting.result _
@@ -64,7 +64,7 @@ serve-requires : tie.Need-serve-requires
 serve-requires c κs = let x = serves c.before.before in
     let m = c.before.before.before.before.before.before.before.before.before.before.before.args.layer.now in
     let v = c.before.before.before.before.before.before.next-waiting.result in
-    let k = laneSize * v + laneSize - laneSize * v in record {
+    let k = lane_size * v + lane_size - lane_size * v in record {
       whole = lent-size m v x k (omega arith);
       places = lent-short m v x k (omega arith);
       waits = lent-some m v x k (omega arith);
@@ -76,7 +76,7 @@ returns-4 c = let x = serves c.before.before.before.before.before.before.before.
     let start = c.before.before.before.before.before.before.before.before.before.before.before.before.before.before.before.before.before.before in
     let v = c.before.before.before.before.before.before.before.before.before.before.before.before.before.next-waiting.result in
     let k = c.before.before.before.before.before.before.serve in
-    turn-ended start.args.layer.now v x (laneSize * v + laneSize - laneSize * v) (omega arith) (length start.args.report.now) k.result k.new.0
+    turn-ended start.args.layer.now v x (lane_size * v + lane_size - lane_size * v) (omega arith) (length start.args.report.now) k.result k.new.0
     k.new.1.0 k.ensures c.if4.true
 
 cast-layer : tie.Need-overflow-cast-layer
@@ -100,7 +100,7 @@ returns-5 c = let x = serves c.before.before.before.before.before.before.before.
     let start = c.before.before.before.before.before.before.before.before.before.before.before.before.before.before.before.before.before.before in
     let v = c.before.before.before.before.before.before.before.before.before.before.before.before.before.next-waiting.result in
     let k = c.before.before.before.before.before.before.serve in
-    turn-serves start.args.layer.now v x (laneSize * v + laneSize - laneSize * v) (omega arith) (length start.args.report.now) k.result k.new.0
+    turn-serves start.args.layer.now v x (lane_size * v + lane_size - lane_size * v) (omega arith) (length start.args.report.now) k.result k.new.0
     k.new.1.0 k.ensures c.if4.false
 
 pub turn_spec : {M : Type 1} → statement M

@@ -8,8 +8,8 @@ use borrow.Author.Tests.{not-true, not-false}
 use Rattle.rules.specs.declared.Venue.{Venue}
 use Rattle.rules.specs.Calls.{is_taken, one}
 use Rattle.rules.proofs.Tests.{and_l}
-use Rattle.places.specs.Layout.{Loaded, venueOf}
-use Rattle.venue_bytes.specs.Held.{venueFrom}
+use Rattle.places.specs.Layout.{Loaded, venue_of}
+use Rattle.venue_bytes.specs.Held.{venue_from}
 use Rattle.engine.specs.Runs.{call_of}
 use Rattle.engine.proofs.OneCallLaws.{laid-sound, one-unready, one-no-number, one-no-room, one-done}
 use Rattle.engine.proofs.OnBytes.{ends-bytes, refused-bytes, accepted-bytes}
@@ -19,7 +19,7 @@ use Rattle.engine.proofs.message_on_bytes.Tie as tie
 
 -- the venue that the bytes stand for
 abbrev held : tie.Start → Venue
-held s = venueFrom s.args.venue.now
+held s = venue_from s.args.venue.now
 
 -- what was known at first
 abbrev start : tie.Else1 → tie.Start
@@ -67,7 +67,7 @@ returns-3 c =
 done : (c : tie.After-struct-known) →
     (let s = start c.before.before.before.before.before.before.before.before.before.before.before.before.before in
     let k = c.before.before.before.before.before.before.before.before.before.step in
-    call_of (record { number = k.result.refused; done = 1; written = k.result.written; venue = venueOf k.new.0 }) c.before.before.before.zero-from.new.0
+    call_of (record { number = k.result.refused; done = 1; written = k.result.written; venue = venue_of k.new.0 }) c.before.before.before.zero-from.new.0
     ≡ one (held s) s.args.before (length s.args.report.now) s.args.message.now)
 done c =
     let e = c.before.before.before.before.before.before.before.before.before.before.before.before.before in

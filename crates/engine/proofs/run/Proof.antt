@@ -2,7 +2,7 @@
 use mathlib.Core.Path.{sym, ap, ◌∙◌}
 use lib.ListN.{length}
 use Rattle.rules.specs.declared.Venue.{Venue}
-use Rattle.rules.specs.Calls.{runUpon}
+use Rattle.rules.specs.Calls.{run_upon}
 use Rattle.demands.proofs.Agree.{from-fresh}
 use borrow.Author.Rules.{rules}
 use Rattle.engine.proofs.run.Statement.{statement}
@@ -11,7 +11,7 @@ use Rattle.engine.proofs.run.Tie as tie
 returns : tie.Need-returns
 returns c =
     let s = c.before.before.before.before.before.before.before in
-    c.before.before.run-upon.ensures ∙ ap (λ (v : Venue). runUpon v 0 (length s.args.report.now) s.args.messages.now) c.before.before.before.before.fresh.ensures
+    c.before.before.run-upon.ensures ∙ ap (λ (v : Venue). run_upon v 0 (length s.args.report.now) s.args.messages.now) c.before.before.before.before.fresh.ensures
     ∙ sym (from-fresh (length s.args.report.now) s.args.messages.now)
 
 pub run_spec : {M : Type 1} → statement M

@@ -5,10 +5,10 @@ use native.Mathlib.Omega.{arith}
 use lib.ListN.{length}
 use borrow.Author.Tests.{not-true, not-false}
 use Rattle.rules.specs.declared.Venue.{Venue}
-use Rattle.rules.specs.Calls.{is_taken, runUpon}
-use Rattle.places.specs.Layout.{Loaded, venueOf}
-use Rattle.venue_bytes.specs.Held.{venueFrom}
-use Rattle.engine.specs.Runs.{returnedWith, call_of}
+use Rattle.rules.specs.Calls.{is_taken, run_upon}
+use Rattle.places.specs.Layout.{Loaded, venue_of}
+use Rattle.venue_bytes.specs.Held.{venue_from}
+use Rattle.engine.specs.Runs.{returned_with, call_of}
 use Rattle.engine.proofs.RunsLaws.{taken_start}
 use Rattle.engine.proofs.OnBytes.{not-bytes, idle-bytes, done-bytes}
 use borrow.Author.Rules.{rules}
@@ -17,7 +17,7 @@ use Rattle.engine.proofs.run_on_bytes.Tie as tie
 
 -- the venue that the bytes stand for
 abbrev held : tie.Start → Venue
-held s = venueFrom s.args.venue.now
+held s = venue_from s.args.venue.now
 
 -- the venue is taken, and the slice stands for it
 passed : (c : tie.Else1) → is_taken (held c.before.before.before.before.before.before.before.before) c.before.before.before.before.before.before.before.before.args.before ≡ true
@@ -39,10 +39,10 @@ run-on-numbers-requires c κs = taken_start _ _ _ (search rules) (passed c.befor
 ran : (c : tie.After-struct-known) →
     (let s = c.before.before.before.before.before.before.before.before.before.before.before.before.before.before.before in
     let k = c.before.before.before.before.run-on-numbers in
-    call_of (returnedWith k.result (venueOf k.new.0)) k.new.1.1.1.0 ≡ runUpon (held s) s.args.before (length s.args.report.now) s.args.messages.now)
+    call_of (returned_with k.result (venue_of k.new.0)) k.new.1.1.1.0 ≡ run_upon (held s) s.args.before (length s.args.report.now) s.args.messages.now)
 ran c =
     let s = c.before.before.before.before.before.before.before.before.before.before.before.before.before.before.before in
-    c.before.before.before.before.run-on-numbers.ensures ∙ ap (λ (v : Venue). runUpon v s.args.before (length s.args.report.now) s.args.messages.now)
+    c.before.before.before.before.run-on-numbers.ensures ∙ ap (λ (v : Venue). run_upon v s.args.before (length s.args.report.now) s.args.messages.now)
     (stands c.before.before.before.before.before.before.before).venue
 
 returns-2 : tie.Need-returns-2

@@ -11,13 +11,13 @@ use denote.Enum.Declared.{tag_of}
 use Rattle.reader.specs.declared.Head.{Head}
 use Rattle.reader.specs.contracts.Head as head
 use Rattle.reader.proofs.Heads.{at_none, at_some}
-use Rattle.places.specs.Layout.{venueOf}
+use Rattle.places.specs.Layout.{venue_of}
 use Rattle.engine.proofs.RunsLaws.{Running, RunEnded, running-start, running-again, running-end, running-stop, ran}
 use Rattle.engine.proofs.run_on_numbers.Statement.{statement}
 use Rattle.engine.proofs.run_on_numbers.Tie as tie
 
 abbrev invariant-loop : tie.invariant-loop
-invariant-loop b₀ n messages report₀ t₀ b report t = Running (venueOf b₀) n messages report₀ b report t
+invariant-loop b₀ n messages report₀ t₀ b report t = Running (venue_of b₀) n messages report₀ b report t
 
 abbrev decreases-loop : tie.decreases-loop
 decreases-loop b₀ n messages report₀ t₀ b report t = length messages - t.at
@@ -50,7 +50,7 @@ loop-again c =
 
 -- either way out of the loop
 ended : (c : tie.At-match-branch invariant-loop decreases-loop) → let a = c.before.before.before.before.before.before.args in
-    RunEnded (venueOf a.numbers.now) a.before a.messages.now a.report.now c.match.numbers c.match.report c.match.t
+    RunEnded (venue_of a.numbers.now) a.before a.messages.now a.report.now c.match.numbers c.match.report c.match.t
 ended c =
     let top = c.before.before in
     ⊎_elim

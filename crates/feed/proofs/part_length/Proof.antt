@@ -2,7 +2,7 @@
 use mathlib.Core.Path.{ap, ◌∙◌}
 use native.Mathlib.Omega.{arith}
 use Rattle.feed.proofs.Cursors.{part_low, part-head, number-ahead}
-use Rattle.reader.specs.Head.{headLength}
+use Rattle.reader.specs.Head.{head_length}
 use borrow.Author.Rules.{rules}
 use Rattle.feed.proofs.part_length.Statement.{statement}
 use Rattle.feed.proofs.part_length.Tie as tie
@@ -15,7 +15,7 @@ add-message-head c = let s = c.before.before.before in let e = c.before.number_a
 
 returns-2 : tie.Need-returns-2
 returns-2 c = let s = c.before.before.before.before.before in let e = c.before.before.before.number_at.ensures in
-    c.head-length.ensures ∙ ap headLength c.before.message-head.ensures ∙ part-head s.args.line.now s.args.at s.args.last
+    c.head-length.ensures ∙ ap head_length c.before.message-head.ensures ∙ part-head s.args.line.now s.args.at s.args.last
     (omega arith)
 
 pub part-length-spec : {M : Type 1} → statement M

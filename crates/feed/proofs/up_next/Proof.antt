@@ -15,7 +15,7 @@ fits c =
     let f = c.number-at2.ensures in
     let x = c.before.number_at.type-inv in
     let y = c.number-at2.type-inv in
-    next_fits s.args.done s.args.main.now s.args.spare.now s.args.at s.args.other s.requires.main s.requires.spare s.requires.inMain s.requires.inSpare s.requires.left
+    next_fits s.args.done s.args.main.now s.args.spare.now s.args.at s.args.other s.requires.main s.requires.spare s.requires.in_main s.requires.in_spare s.requires.left
     (omega arith) (omega arith)
 
 add-number : tie.Need-overflow-add-number

@@ -4,7 +4,7 @@ use lib.ListN.{length}
 use borrow.Author.Rules.{rules}
 use Rattle.rules.specs.declared.Returned.{Returned}
 use Rattle.rules.specs.declared.Venue.{Venue}
-use Rattle.engine.specs.Runs.{returnedWith, call_of}
+use Rattle.engine.specs.Runs.{returned_with, call_of}
 use Rattle.feed_run.proofs.FeedsLaws.{fed-sound}
 use Rattle.feed_run.proofs.feed.Statement.{statement}
 use Rattle.feed_run.proofs.feed.Tie as tie
@@ -22,7 +22,7 @@ returns : tie.Need-returns
 returns c =
     let k = c.before.before.before.before.before.before.feed-on-numbers in
     ap (λ (r : Returned). call_of r k.new.1.1.1.0) c.returned-with.ensures
-    ∙ ap (λ (v : Venue). call_of (returnedWith k.result v) k.new.1.1.1.0) c.before.venue-read.ensures ∙ k.ensures
+    ∙ ap (λ (v : Venue). call_of (returned_with k.result v) k.new.1.1.1.0) c.before.venue-read.ensures ∙ k.ensures
 
 pub feed-spec : {M : Type 1} → statement M
 feed-spec =

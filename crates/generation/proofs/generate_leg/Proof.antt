@@ -1,14 +1,14 @@
 -- `generation::generate_leg` meets its contract.
 use Rattle.generation.proofs.PartsLaws.{steps-some, made_none, made-alone, made-over, made-is, planned-displayed}
 use Rattle.settling.proofs.PartsLaws.{off, on}
-use Rattle.generation.specs.Parts.{madeBy}
-use Rattle.places.specs.Layout.{venueOf}
+use Rattle.generation.specs.Parts.{made_by}
+use Rattle.places.specs.Layout.{venue_of}
 use Rattle.records.proofs.StageLaws.{does-nothing}
 use Rattle.records.specs.Stage.{◌does◌}
 use Rattle.records.specs.Seen.{seen}
 use Rattle.rules.specs.Effects.{Effect, nothing}
-use Rattle.rules.specs.Generation.{generationsOf, underCeiling}
-use Rattle.rules.specs.Words.{placeOf}
+use Rattle.rules.specs.Generation.{generations_of, under_ceiling}
+use Rattle.rules.specs.Words.{place_of}
 use Rattle.rules.specs.declared.Venue.{Venue}
 use Rattle.places.proofs.Beside.{counts-on}
 use mathlib.Core.Path.{refl, sym, ap, ◌∙◌}
@@ -18,7 +18,7 @@ use Rattle.generation.proofs.generate_leg.Tie as tie
 
 returns : tie.Need-returns
 returns c = let a = c.before.before.before.before.before.before.args in let p = c.before.before.before.before.before.before.requires in (
-  does-nothing (venueOf a.numbers.now) a.out.now a.at
+  does-nothing (venue_of a.numbers.now) a.out.now a.at
       ∙ ap (λ (e : Effect). seen a.out.now a.at does e)
       (made_none _ a.c _ _ a.number (steps-some _ _ p.right.marked.figures p.series) c.before.before.plan-leg.result
       c.before.before.plan-leg.ensures c.if1.true),
@@ -26,7 +26,7 @@ returns c = let a = c.before.before.before.before.before.before.args in let p = 
 )
 
 others-stand-with-requires : tie.Need-others-stand-with-requires
-unfolding placeOf
+unfolding place_of
 others-stand-with-requires c κs = search rules
 
 returns-2 : tie.Need-returns-2
@@ -51,7 +51,7 @@ returns-3 c =
       does-nothing _ a.out.now a.at ∙ ap (λ (v : Venue). seen a.out.now a.at does nothing v) w.0
           ∙ ap (λ (e : Effect). seen a.out.now a.at does e)
           (made-over _ a.c a.s _ a.number
-          (ap (λ (v : Venue). underCeiling a.number (generationsOf v a.s)) (sym w.0) ∙ off _ _ c.before.is-under-ceiling.ensures
+          (ap (λ (v : Venue). under_ceiling a.number (generations_of v a.s)) (sym w.0) ∙ off _ _ c.before.is-under-ceiling.ensures
           c.if3.true)),
       w.1,
     )
@@ -75,11 +75,11 @@ returns-4 c =
     let p = c.before.before.before.before.before.before.before.before.before.before.before.before.before.before.before.before.before.before.plan-leg in
     let w = c.before.before.before.before.before.before.before.before.before.before.before.before.before.others-stand-with.ensures in
     let m = c.before.before.before.before.make-leg.ensures in (
-      m.0 ∙ ap (λ (v : Venue). seen a.out.now a.at does madeBy a.number a.c.id a.s a.d p.result v) w.1.0
+      m.0 ∙ ap (λ (v : Venue). seen a.out.now a.at does made_by a.number a.c.id a.s a.d p.result v) w.1.0
           ∙ ap (λ (e : Effect). seen a.out.now a.at does e)
           (made-is _ a.c _ _ p.result p.ensures
           c.before.before.before.before.before.before.before.before.before.before.before.before.before.before.before.before.if1.false _ c.before.before.before.before.before.before.before.before.before.before.before.before.before.before.place_of.ensures a.number (on _ _ w.0 c.before.before.before.before.before.before.before.before.before.before.if2.false)
-          (ap (λ (v : Venue). underCeiling a.number (generationsOf v a.s)) (sym w.1.0)
+          (ap (λ (v : Venue). under_ceiling a.number (generations_of v a.s)) (sym w.1.0)
           ∙ on _ _ c.before.before.before.before.before.before.before.before.is-under-ceiling.ensures
           c.before.before.before.before.before.before.before.if3.false)),
       counts-on _ _ _ w.1.1 m.1,

@@ -1,11 +1,11 @@
 -- `generation::generate_order` meets its contract.
 use Rattle.generation.proofs.PartsLaws.{generates-kept, generate-past, generate-gone, generate-shut, generate-is, complex-in}
 use Rattle.settling.proofs.PartsLaws.{off, on}
-use Rattle.places.specs.Layout.{venueOf, complexesUsed}
+use Rattle.places.specs.Layout.{venue_of, complexes_used}
 use Rattle.records.proofs.StageLaws.{does-nothing, follow, stage-venue}
 use Rattle.records.specs.Stage.{◌does◌}
 use Rattle.records.specs.Seen.{seen}
-use Rattle.rules.specs.Generation.{generateLeg}
+use Rattle.rules.specs.Generation.{generate_leg}
 use Rattle.rules.specs.Effects.{Effect}
 use Rattle.places.proofs.Beside.{counts-on}
 use mathlib.Core.Path.{refl, ap, ◌∙◌}
@@ -18,7 +18,7 @@ use Rattle.generation.proofs.generate_order.Tie as tie
 returns : tie.Need-returns
 returns c =
     let a = c.before.before.before.before.before.args in (
-      does-nothing (venueOf a.numbers.now) a.out.now a.at
+      does-nothing (venue_of a.numbers.now) a.out.now a.at
           ∙ ap (λ (e : Effect). seen a.out.now a.at does e) (generate-past a.number a.numbers.now a.i (omega (arith, c.before.complexes-used.ensures.0, c.if1.true))),
       record { regulars = refl; complexes = refl; right = λ h. h },
     )
@@ -26,7 +26,7 @@ returns c =
 -- the order's place is in use
 used : (c : tie.After-complex-at) →
     let a = c.before.before.before.before.before.before.before.args in
-    a.i < complexesUsed a.numbers.now
+    a.i < complexes_used a.numbers.now
 used c =
     let p3 = c.before.before.before in
     omega (arith, p3.complexes-used.ensures.0, c.before.before.if1.false)
@@ -36,7 +36,7 @@ returns-2 c =
     let p2 = c.before.before in
     let x = p2.complex-at in
     let a = p2.before.before.before.before.before.before.before.args in (
-      does-nothing (venueOf a.numbers.now) a.out.now a.at
+      does-nothing (venue_of a.numbers.now) a.out.now a.at
           ∙ ap (λ (e : Effect). seen a.out.now a.at does e) (generate-gone a.numbers.now a.i x.result x.ensures a.number (used p2) c.if2.true),
       record { regulars = refl; complexes = refl; right = λ h. h },
     )
@@ -60,7 +60,7 @@ returns-3 c =
     let p6 = c.before.before.before.before.before.before in
     let x = p6.complex-at in
     let a = p6.before.before.before.before.before.before.before.args in (
-      does-nothing (venueOf a.numbers.now) a.out.now a.at
+      does-nothing (venue_of a.numbers.now) a.out.now a.at
           ∙ ap (λ (e : Effect). seen a.out.now a.at does e)
           (generate-shut a.numbers.now a.i x.result x.ensures a.number (used p6) (off _ _ c.before.may-generate.ensures c.if3.true)),
       record { regulars = refl; complexes = refl; right = λ h. h },
@@ -100,7 +100,7 @@ generate-leg-requires-2 c κs =
       series = h.second;
       side = h.side2;
       some = omega (arith, p13.if2.false);
-      may = generates-kept (venueOf s.args.numbers.now) x.result x.result.series1 x.result.side1 s.args.number _ (stage-venue _ _ _ _ _ _ w.0)
+      may = generates-kept (venue_of s.args.numbers.now) x.result x.result.series1 x.result.side1 s.args.number _ (stage-venue _ _ _ _ _ _ w.0)
           ∙ on _ _ p9.before.may-generate.ensures p9.if3.false;
     }
 
@@ -113,8 +113,8 @@ returns-4 c =
     let a = p20.before.before.before.before.before.before.before.args in
     let first = p11.generate-leg.ensures in
     let second = p4.generate-leg2.ensures in (
-      follow _ (generateLeg a.number x.result x.result.series1 x.result.side1 (venueOf a.numbers.now))
-          (generateLeg a.number x.result x.result.series2 x.result.side2) _ _ _ _ _ _ first.0 second.0
+      follow _ (generate_leg a.number x.result x.result.series1 x.result.side1 (venue_of a.numbers.now))
+          (generate_leg a.number x.result x.result.series2 x.result.side2) _ _ _ _ _ _ first.0 second.0
           ∙ ap (λ (e : Effect). seen a.out.now a.at does e) (generate-is a.numbers.now a.i x.result x.ensures a.number (used p20)),
       counts-on _ _ _ first.1 second.1,
     )

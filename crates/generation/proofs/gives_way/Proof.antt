@@ -1,8 +1,8 @@
 -- `generation::gives_way` meets its contract.
 use Rattle.generation.proofs.PartsLaws.{way-better, way-worse, way-other, way-class}
-use Rattle.places.specs.Layout.{venueOf}
-use Rattle.rules.specs.Standing.{parentOf}
-use Rattle.rules.specs.Words.{placeOf}
+use Rattle.places.specs.Layout.{venue_of}
+use Rattle.rules.specs.Standing.{parent_of}
+use Rattle.rules.specs.Words.{place_of}
 use Rattle.places.proofs.Parts.{legging-read}
 use mathlib.Core.Path.{sym, ap, ◌∙◌}
 use borrow.Author.Rules.{rules}
@@ -23,7 +23,7 @@ returns-3 c = way-other _ c.before.before.before.before.before.before.before.arg
     c.if3.true
 
 legging-at-requires : tie.Need-legging-at-requires
-unfolding placeOf
+unfolding place_of
 legging-at-requires c κs = search rules
 
 returns-4 : tie.Need-returns-4
@@ -32,7 +32,7 @@ returns-4 c = let start = c.before.before.before.before.before.before.before.bef
     (sym c.before.before.before.before.before.before.before.before.is-better.ensures
     ∙ c.before.before.before.before.before.before.before.if1.false) c.before.before.before.before.before.before.if2.false
     c.before.before.before.before.if3.false c.before.parent_of.result
-    (c.before.parent_of.ensures ∙ ap (parentOf (venueOf a.numbers.now))
+    (c.before.parent_of.ensures ∙ ap (parent_of (venue_of a.numbers.now))
     (legging-read _ _ _ _ c.before.before.legging-at.result p.series p.side c.before.before.before.place_of.ensures
     c.before.before.legging-at.ensures))
 

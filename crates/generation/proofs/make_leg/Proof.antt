@@ -1,17 +1,17 @@
 -- `generation::make_leg` meets its contract.
 use Rattle.generation.proofs.PartsLaws.{made-law}
-use Rattle.rules.specs.Words.{placeOf}
+use Rattle.rules.specs.Words.{place_of}
 use Rattle.places.proofs.Beside.{counts-on}
 use borrow.Author.Rules.{rules}
 use Rattle.generation.proofs.make_leg.Statement.{statement}
 use Rattle.generation.proofs.make_leg.Tie as tie
 
 remove-one-requires : tie.Need-remove-one-requires
-unfolding placeOf
+unfolding place_of
 remove-one-requires c κs = search rules
 
 put-legging-requires : tie.Need-put-legging-requires
-unfolding placeOf
+unfolding place_of
 put-legging-requires c κs = search rules
 
 returns : tie.Need-returns

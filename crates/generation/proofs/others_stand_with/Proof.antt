@@ -1,6 +1,6 @@
 -- `generation::others_stand_with` meets its contract.
 use Rattle.generation.proofs.PartsLaws.{grid-kept, placed-regular, placed-back}
-use Rattle.rules.specs.Generation.{placed, othersStand}
+use Rattle.rules.specs.Generation.{placed, others_stand}
 use Rattle.rules.specs.declared.Venue.{Venue}
 use Rattle.places.proofs.Beside.{counts-on}
 use mathlib.Core.Path.{ap, ◌∙◌}
@@ -28,7 +28,7 @@ returns c =
     let old = p10.legging-at in
     let first = p8.put-legging.ensures in
     let second = p2.put-legging2.ensures in (
-      p4.others-stand.ensures ∙ ap (λ (w : Venue). othersStand w a.n 0 w.legging) first.0,
+      p4.others-stand.ensures ∙ ap (λ (w : Venue). others_stand w a.n 0 w.legging) first.0,
       (
         second.0 ∙ ap (placed a.n old.result) first.0 ∙ placed-back a.numbers.now a.n a.l old.result s.requires.place old.ensures,
         counts-on _ _ _ first.1 second.1,

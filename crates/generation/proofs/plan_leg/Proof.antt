@@ -1,7 +1,7 @@
 -- `generation::plan_leg` meets its contract.
 use Rattle.settling.proofs.PartsLaws.{off, on, size_is}
 use Rattle.generation.proofs.PartsLaws.{planned-free, planned-not, planned-new}
-use Rattle.places.specs.Layout.{venueOf}
+use Rattle.places.specs.Layout.{venue_of}
 use Prim.Native.Nat.{min}
 use mathlib.Core.Path.{refl, ap, ◌∙◌}
 use borrow.Author.Rules.{rules}
@@ -28,7 +28,7 @@ returns-3 c =
     let s = p4.before.before.before.before in
     let a = s.args in
     planned-new _ a.c _ _ _ _ p4.leg-price.ensures s.requires.some p2.before.if1.false (on _ _ p2.may-stand.ensures c.before.if2.false)
-    (c.leg-quantity.ensures ∙ ap (min a.c.quantity) (size_is (venueOf a.numbers.now) x.result.taken a.c a.s x.ensures.taken _ refl))
+    (c.leg-quantity.ensures ∙ ap (min a.c.quantity) (size_is (venue_of a.numbers.now) x.result.taken a.c a.s x.ensures.taken _ refl))
 
 pub plan-leg-spec : {M : Type 1} → statement M
 plan-leg-spec =

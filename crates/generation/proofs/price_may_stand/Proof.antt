@@ -1,9 +1,9 @@
 -- `generation::price_may_stand` meets its contract.
 use Rattle.settling.proofs.PartsLaws.{off, on, displayed-is}
 use Rattle.generation.proofs.PartsLaws.{stand-own, stand-away}
-use Rattle.generation.specs.Parts.{priceMayStand}
-use Rattle.places.specs.Layout.{venueOf}
-use Rattle.rules.specs.Prices.{bestRegular}
+use Rattle.generation.specs.Parts.{price_may_stand}
+use Rattle.places.specs.Layout.{venue_of}
+use Rattle.rules.specs.Prices.{best_regular}
 use Rattle.levels.proofs.Sides.{opposite-in}
 use mathlib.Core.Bool.{not}
 use mathlib.Core.Path.{sym, ap, ◌∙◌}
@@ -12,16 +12,16 @@ use Rattle.generation.proofs.price_may_stand.Statement.{statement}
 use Rattle.generation.proofs.price_may_stand.Tie as tie
 
 returns : tie.Need-returns
-unfolding priceMayStand
+unfolding price_may_stand
 returns c =
-    simp (off _ _ (displayed-is (venueOf c.before.before.before.args.numbers.now) _ _ _ _ _ c.before.before.before.requires.own c.before.displayed-no-worse.ensures) c.if1.true)
+    simp (off _ _ (displayed-is (venue_of c.before.before.before.args.numbers.now) _ _ _ _ _ c.before.before.before.requires.own c.before.displayed-no-worse.ensures) c.if1.true)
 
 best-own-requires : tie.Need-best-own-requires
 best-own-requires c κs =
     let p = c.before.before.before.before.requires in
     let a = c.before.before.before.before.args in record {
       whole = p.whole;
-      best = p.facing ∙ ap (bestRegular (venueOf a.numbers.now) a.s) (sym c.opposite-of.ensures);
+      best = p.facing ∙ ap (best_regular (venue_of a.numbers.now) a.s) (sym c.opposite-of.ensures);
       series = p.series;
       side = rw c.opposite-of.ensures (opposite-in _);
     }
@@ -29,7 +29,7 @@ best-own-requires c κs =
 returns-2 : tie.Need-returns-2
 returns-2 c =
     stand-own _ _ _ _ _ c.before.before.before.opposite-of.ensures
-    (on _ _ (displayed-is (venueOf c.before.before.before.before.before.before.before.args.numbers.now) _ _ _ _ _
+    (on _ _ (displayed-is (venue_of c.before.before.before.before.before.before.before.args.numbers.now) _ _ _ _ _
     c.before.before.before.before.before.before.before.requires.own c.before.before.before.before.before.displayed-no-worse.ensures)
     c.before.before.before.before.if1.false) _
     c.before.before.best-own.ensures (sym c.before.reaches-any.ensures ∙ c.if2.true)
@@ -38,7 +38,7 @@ returns-3 : tie.Need-returns-3
 returns-3 c =
     ap not c.reaches-any2.ensures
     ∙ stand-away _ _ _ _ _ c.before.before.before.before.before.opposite-of.ensures
-    (on _ _ (displayed-is (venueOf c.before.before.before.before.before.before.before.before.before.args.numbers.now) _ _ _ _ _
+    (on _ _ (displayed-is (venue_of c.before.before.before.before.before.before.before.before.before.args.numbers.now) _ _ _ _ _
     c.before.before.before.before.before.before.before.before.before.requires.own
     c.before.before.before.before.before.before.before.displayed-no-worse.ensures)
     c.before.before.before.before.before.before.if1.false) _

@@ -4,7 +4,7 @@ use Prim.Native.Nat.{◌-◌, ◌*◌}
 use lib.ListN.{length-set}
 use native.Mathlib.Omega.{arith}
 use borrow.Author.Rules.{rules}
-use Rattle.lanes.specs.Memory.{countAt, placeSize}
+use Rattle.lanes.specs.Memory.{count_at, place_size}
 use Rattle.lanes.proofs.MemoryLaws.{Moved, moved_none, moved-next, moved_all}
 use Rattle.lanes.proofs.drop_head.Statement.{statement}
 use Rattle.lanes.proofs.drop_head.Tie as tie
@@ -13,7 +13,7 @@ abbrev invariant-loop : tie.invariant-loop
 invariant-loop lane₀ count i₀ lane i = Moved lane₀ lane i
 
 abbrev decreases-loop : tie.decreases-loop
-decreases-loop lane₀ count i₀ lane i = 7 * placeSize - i
+decreases-loop lane₀ count i₀ lane i = 7 * place_size - i
 
 loop-holds : tie.Need-loop-init invariant-loop decreases-loop
 loop-holds c = moved_none _
@@ -36,7 +36,7 @@ slice-write-lane-2 c = let r = c.before.before.before.before.before.loop.invaria
     omega (arith, c.before.before.before.before.before.before.before.before.before.requires.whole, c.before.before.zero-from.auto.0)
 
 same_length : tie.Need-same-length invariant-loop decreases-loop
-same_length c = length-set c.before.before.zero-from.new.0 countAt (c.before.before.before.before.before.before.u8-at.result - 1)
+same_length c = length-set c.before.before.zero-from.new.0 count_at (c.before.before.before.before.before.before.u8-at.result - 1)
     ∙ c.before.before.zero-from.auto.0 ∙ c.before.before.before.before.before.loop.invariant.room
 
 returns : tie.Need-returns invariant-loop decreases-loop

@@ -4,7 +4,7 @@ use lib.Seq.{length-take-le}
 use native.Mathlib.Omega.{arith}
 use borrow.Author.Tests.{not-true, not-false}
 use borrow.Author.Rules.{rules}
-use Rattle.venue_bytes.specs.Held.{venueSize}
+use Rattle.venue_bytes.specs.Held.{venue_size}
 use Rattle.lanes.proofs.Figures.{lane-waits, lane-passed, lane-checked}
 use Rattle.lanes.proofs.lane_sound.Statement.{statement}
 use Rattle.lanes.proofs.lane_sound.Tie as tie
@@ -16,11 +16,11 @@ returns-2 : tie.Need-returns-2
 returns-2 c = lane-passed _ _ _ _ c.before.before.wait-sound.ensures (not-false _ c.before.if1.false) c.if2.true
 
 slice-aggregate-load-bytes-ready-2 : tie.Need-slice-aggregate-load-bytes-ready-2
-slice-aggregate-load-bytes-ready-2 c = let s = c.before.before.before.before.before.before.before in let p = s.requires in sym (length-take-le venueSize s.args.lane.now (omega arith))
+slice-aggregate-load-bytes-ready-2 c = let s = c.before.before.before.before.before.before.before in let p = s.requires in sym (length-take-le venue_size s.args.lane.now (omega arith))
 
 load-bytes-ready-requires : tie.Need-load-bytes-ready-requires
 load-bytes-ready-requires c κs = let s = c.before.before.before.before.before.before.before in let p = s.requires in
-    record { bytes = length-take-le venueSize s.args.lane.now (omega arith); whole = search rules }
+    record { bytes = length-take-le venue_size s.args.lane.now (omega arith); whole = search rules }
 
 returns-3 : tie.Need-returns-3
 returns-3 c = lane-checked _ _ _ _ c.before.before.before.before.before.before.before.wait-sound.ensures _ _

@@ -4,7 +4,7 @@ use Prim.Native.Nat.{◌+◌, ◌-◌, ◌*◌, ◌≤◌}
 use native.Mathlib.Omega.{arith}
 use borrow.Author.Tests.{not-true, not-false}
 use borrow.Author.Rules.{rules}
-use Rattle.lanes.specs.Memory.{laneSize}
+use Rattle.lanes.specs.Memory.{lane_size}
 use Rattle.lanes.proofs.Bytes.{part_length}
 use Rattle.lanes.proofs.Figures.{lent, Passed, passed_none, passed-next, lane-fails, last-fails, all_pass}
 use Rattle.lanes.proofs.layer_sound.Statement.{statement}
@@ -24,21 +24,21 @@ loop-holds c = (search rules, passed_none _ _)
 
 lane-sound-requires : tie.Need-lane-sound-requires invariant-loop decreases-loop
 lane-sound-requires c κs = let p = c.before.before.before.before.before.before.requires in
-    part_length c.before.before.before.before.before.before.args.layer.now (laneSize * c.before.before.loop.i)
-    (laneSize * c.before.before.loop.i + laneSize - laneSize * c.before.before.loop.i) (omega arith) ∙ omega arith
+    part_length c.before.before.before.before.before.before.args.layer.now (lane_size * c.before.before.loop.i)
+    (lane_size * c.before.before.loop.i + lane_size - lane_size * c.before.before.loop.i) (omega arith) ∙ omega arith
 
 returns-2 : tie.Need-returns-2 invariant-loop decreases-loop
 returns-2 c = lane-fails _ _ c.before.before.before.before.loop.i c.before.before.before.loop-test.true
-    (sym (lent _ _ c.before.before.before.before.loop.i (laneSize * c.before.before.before.before.loop.i)
-    (laneSize * c.before.before.before.before.loop.i + laneSize - laneSize * c.before.before.before.before.loop.i) _ refl (omega arith)
+    (sym (lent _ _ c.before.before.before.before.loop.i (lane_size * c.before.before.before.before.loop.i)
+    (lane_size * c.before.before.before.before.loop.i + lane_size - lane_size * c.before.before.before.before.loop.i) _ refl (omega arith)
     c.before.before.before.loop-test.true c.before.lane-sound.ensures) ∙ not-true _ c.if2.true)
 
 loop-again : tie.Need-loop-preserved invariant-loop decreases-loop
 loop-again c = (
   search rules,
   passed-next _ _ c.before.before.before.before.loop.i c.before.before.before.before.loop.invariant.1
-      (sym (lent _ _ c.before.before.before.before.loop.i (laneSize * c.before.before.before.before.loop.i)
-      (laneSize * c.before.before.before.before.loop.i + laneSize - laneSize * c.before.before.before.before.loop.i) _ refl (omega arith)
+      (sym (lent _ _ c.before.before.before.before.loop.i (lane_size * c.before.before.before.before.loop.i)
+      (lane_size * c.before.before.before.before.loop.i + lane_size - lane_size * c.before.before.before.before.loop.i) _ refl (omega arith)
       c.before.before.before.loop-test.true c.before.lane-sound.ensures) ∙ not-false _ c.if2.false),
 )
 

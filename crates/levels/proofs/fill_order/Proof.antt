@@ -11,11 +11,11 @@ use Rattle.levels.proofs.fill_order.Tie as tie
 
 regular-at-requires : tie.Need-regular-at-requires
 regular-at-requires c κs = let f = regulars-few c.before.before.args.numbers.now in
-    record { whole = c.before.before.requires.whole; place = omega (arith, c.before.before.requires.inUse) }
+    record { whole = c.before.before.requires.whole; place = omega (arith, c.before.before.requires.in_use) }
 
 key-at-requires : tie.Need-key-at-requires
 key-at-requires c κs = let f = regulars-few c.before.before.before.before.args.numbers.now in
-    record { whole = c.before.before.before.before.requires.whole; place = omega (arith, c.before.before.before.before.requires.inUse) }
+    record { whole = c.before.before.before.before.requires.whole; place = omega (arith, c.before.before.before.before.requires.in_use) }
 
 level-at-requires : tie.Need-level-at-requires
 level-at-requires c κs = record { whole = c.before.before.before.before.before.before.requires.whole; place = key-few _ _ _ c.before.key-at.ensures }
@@ -25,7 +25,7 @@ returns c = let start = c.before.before.before.before.before.before.before.befor
   c.before.before.before.before.before.fill-regular.ensures.0,
   filled_off start.args.numbers.now _ start.args.i start.args.k _
       c.before.before.before.before.before.before.before.before.before.before.before.regular-at.result
-      c.before.before.before.before.before.before.before.level-at.result start.requires.inUse
+      c.before.before.before.before.before.before.before.level-at.result start.requires.in_use
       c.before.before.before.before.before.before.before.before.before.before.before.regular-at.ensures
       c.before.before.before.before.before.before.before.before.before.key-at.ensures
       c.before.before.before.before.before.before.before.level-at.ensures
@@ -43,7 +43,7 @@ put-level-requires c κs = record {
 returns-2 : tie.Need-returns-2
 returns-2 c = let start = c.before.before.before.before.before.before.before.before.before.before.before.before.before.before.before.before.before.before.before.before.before.before.before in filled_on start.args.numbers.now _ start.args.i start.args.k _
     c.before.before.before.before.before.before.before.before.before.before.before.before.before.before.before.before.before.before.before.before.regular-at.result
-    c.before.before.before.before.before.before.before.before.before.before.before.before.before.before.before.before.level-at.result start.pre.inUse
+    c.before.before.before.before.before.before.before.before.before.before.before.before.before.before.before.before.level-at.result start.pre.in_use
     c.before.before.before.before.before.before.before.before.before.before.before.before.before.before.before.before.before.before.before.before.regular-at.ensures
     c.before.before.before.before.before.before.before.before.before.before.before.before.before.before.before.before.before.before.key-at.ensures c.before.before.before.before.before.before.before.before.before.before.before.before.before.before.before.before.level-at.ensures
     c.before.before.before.before.before.before.before.before.before.before.before.before.before.before.fill-regular.ensures.0
@@ -51,7 +51,7 @@ returns-2 c = let start = c.before.before.before.before.before.before.before.bef
     c.before.before.put-level.ensures
     (filled-rest start.args.numbers.now _ start.args.i start.args.k _
     c.before.before.before.before.before.before.before.before.before.before.before.before.before.before.before.before.before.before.before.before.regular-at.result
-    c.before.before.before.before.before.before.before.before.before.before.before.before.before.before.before.before.level-at.result start.pre.inUse
+    c.before.before.before.before.before.before.before.before.before.before.before.before.before.before.before.before.level-at.result start.pre.in_use
     c.before.before.before.before.before.before.before.before.before.before.before.before.before.before.before.before.before.before.before.before.regular-at.ensures
     c.before.before.before.before.before.before.before.before.before.before.before.before.before.before.before.before.before.before.key-at.ensures c.before.before.before.before.before.before.before.before.before.before.before.before.before.before.before.before.level-at.ensures
     c.before.before.before.before.before.before.before.before.before.before.before.before.before.before.fill-regular.ensures.0
@@ -80,7 +80,7 @@ put-level-requires-2 c κs = record {
 returns-3 : tie.Need-returns-3
 returns-3 c = let start = c.before.before.before.before.before.before.before.before.before.before.before.before.before.before.before.before.before.before.before.before.before.before.before.before in filled_on start.args.numbers.now _ start.args.i start.args.k _
     c.before.before.before.before.before.before.before.before.before.before.before.before.before.before.before.before.before.before.before.before.before.regular-at.result
-    c.before.before.before.before.before.before.before.before.before.before.before.before.before.before.before.before.before.level-at.result start.pre.inUse
+    c.before.before.before.before.before.before.before.before.before.before.before.before.before.before.before.before.before.level-at.result start.pre.in_use
     c.before.before.before.before.before.before.before.before.before.before.before.before.before.before.before.before.before.before.before.before.before.regular-at.ensures
     c.before.before.before.before.before.before.before.before.before.before.before.before.before.before.before.before.before.before.before.key-at.ensures
     c.before.before.before.before.before.before.before.before.before.before.before.before.before.before.before.before.before.level-at.ensures c.before.before.before.before.before.before.before.before.before.before.before.before.before.before.before.fill-regular.ensures.0

@@ -1,6 +1,6 @@
 -- `levels::taken_at` meets its contract.
 use mathlib.Core.Path.{ap, ◌∙◌}
-use Rattle.rules.specs.Words.{opposite, placeOf}
+use Rattle.rules.specs.Words.{opposite, place_of}
 use Rattle.levels.proofs.Sides.{opposite-in, opposite-side}
 use Rattle.levels.proofs.LevelsKept.{place-low, level-read}
 use borrow.Author.Rules.{rules}
@@ -20,10 +20,10 @@ returns c = let start = c.before.before.before.before.before.before.before in le
     let k = start.args.c in
     record {
       first = level-read b k.series1 (opposite k.side1) _ _ p.right p.legs.first (opposite-in k.side1)
-          (c.before.before.before.before.place_of.ensures ∙ ap (placeOf k.series1)
+          (c.before.before.before.before.place_of.ensures ∙ ap (place_of k.series1)
           c.before.before.before.before.before.opposite-of.ensures) c.before.before.before.level-at.ensures;
       second = level-read b k.series2 (opposite k.side2) _ _ p.right p.legs.second (opposite-in k.side2)
-          (c.before.place-of2.ensures ∙ ap (placeOf k.series2) c.before.before.opposite-of2.ensures) c.level-at2.ensures;
+          (c.before.place-of2.ensures ∙ ap (place_of k.series2) c.before.before.opposite-of2.ensures) c.level-at2.ensures;
     }
 
 pub taken-at-spec : {M : Type 1} → statement M

@@ -5,7 +5,7 @@ use native.Mathlib.Omega.{arith}
 use borrow.Author.Tests.{not-true, not-false}
 use Rattle.rules.specs.Step.{perform}
 use Rattle.wire.proofs.Decoding.{any-edition}
-use Rattle.places.specs.Layout.{venueOf}
+use Rattle.places.specs.Layout.{venue_of}
 use Rattle.refusals.proofs.Passing.{increment-place}
 use Rattle.refusals.proofs.RefusalFound.{increment-refusal}
 use Rattle.answers.proofs.Answering.{refused-steps, done-steps, out-steps, in-steps}
@@ -28,7 +28,7 @@ returns-2 : tie.Need-returns-2
 returns-2 c =
     let s = c.before.before.before.before.before.before.before.before.before.before.before.before.before.before in
     in-steps _ _ _ _ _ _ _ _ _ (any-edition _ _ (omega arith) ∙ sym c.before.before.before.before.before.before.before.before.before.before.before.increment-in-range.ensures ∙ not-false _ c.before.before.before.before.before.before.before.before.before.before.if1.false) refl
-    (refused-steps _ _ _ _ _ _ _ _ (c.before.before.before.before.before.before.edition-refusal.ensures ∙ increment-refusal (venueOf
+    (refused-steps _ _ _ _ _ _ _ _ (c.before.before.before.before.before.before.edition-refusal.ensures ∙ increment-refusal (venue_of
     s.args.numbers.now) s.args.s s.args.x s.args.edition _
     c.before.before.before.before.before.before.before.before.is-idle.ensures) c.before.before.before.before.before.if2.true
     c.before.before.refuse2.ensures)
@@ -38,7 +38,7 @@ set-figure-requires c κs =
     let s = c.before.before.before.before.before.before.before.before.before.before.before.before.before.before.before in record {
       whole = s.requires.whole;
       free = increment-place _ _ _ _ (sym (c.before.before.before.before.before.before.before.edition-refusal.ensures ∙ increment-refusal
-          (venueOf s.args.numbers.now) s.args.s s.args.x s.args.edition _
+          (venue_of s.args.numbers.now) s.args.s s.args.x s.args.edition _
           c.before.before.before.before.before.before.before.before.before.is-idle.ensures)
           ∙ c.before.before.before.before.before.before.if2.false);
       value = inl (increment-set _ _ (sym
@@ -61,7 +61,7 @@ returns-3 c =
     let s = c.before.before.before.before.before.before.before.before.before.before.before.before.before.before.before.before.before.before.before.before.before.before.before.before.before.before.before in
     in-steps _ _ _ _ _ _ _ _ _ (any-edition _ _ (omega arith) ∙ sym c.before.before.before.before.before.before.before.before.before.before.before.before.before.before.before.before.before.before.before.before.before.before.before.before.increment-in-range.ensures
     ∙ not-false _ c.before.before.before.before.before.before.before.before.before.before.before.before.before.before.before.before.before.before.before.before.before.before.before.if1.false) refl (done-steps _ _ _ _ _ _ _ _ _ _ _ _ (sym
-    (c.before.before.before.before.before.before.before.before.before.before.before.before.before.before.before.before.before.before.before.edition-refusal.ensures ∙ increment-refusal (venueOf s.args.numbers.now) s.args.s s.args.x s.args.edition _
+    (c.before.before.before.before.before.before.before.before.before.before.before.before.before.before.before.before.before.before.before.edition-refusal.ensures ∙ increment-refusal (venue_of s.args.numbers.now) s.args.s s.args.x s.args.edition _
     c.before.before.before.before.before.before.before.before.before.before.before.before.before.before.before.before.before.before.before.before.before.is-idle.ensures) ∙ c.before.before.before.before.before.before.before.before.before.before.before.before.before.before.before.before.before.before.if2.false) c.before.before.before.before.before.before.before.before.before.before.before.before.before.before.before.before.emit-answer.ensures c.before.before.before.before.before.before.before.before.before.before.before.set-figure.ensures.0 c.before.before.before.before.finish.ensures)
 
 pub increment-step-spec : {M : Type 1} → statement M

@@ -2,10 +2,10 @@
 use mathlib.Core.Path.{refl, sym, ◌∙◌}
 use mathlib.Core.Logic.{inr}
 use native.Mathlib.Omega.{arith}
-use Rattle.rules.specs.Settings.{isPercent}
+use Rattle.rules.specs.Settings.{is_percent}
 use Rattle.rules.specs.Step.{perform}
 use Rattle.wire.proofs.Decoding.{any-edition}
-use Rattle.places.specs.Layout.{venueOf}
+use Rattle.places.specs.Layout.{venue_of}
 use Rattle.rules.proofs.Ranges.{above, inside}
 use Rattle.refusals.proofs.Passing.{percent-place}
 use Rattle.refusals.proofs.RefusalFound.{percent-refusal}
@@ -15,24 +15,24 @@ use Rattle.market_messages.proofs.percent_step.Statement.{statement}
 use Rattle.market_messages.proofs.percent_step.Tie as tie
 
 returns : tie.Need-returns
-unfolding isPercent
+unfolding is_percent
 returns c = out-steps _ _ _ _ _ _ _ _ _ (any-edition _ _ (omega arith) ∙ above 0 50 _ c.before.before.before.before.before.if1.true)
     c.before.before.refuse.ensures
 
 returns-2 : tie.Need-returns-2
-unfolding isPercent
+unfolding is_percent
 returns-2 c =
     let s = c.before.before.before.before.before.before.before.before.before.before.before in
     in-steps _ _ _ _ _ _ _ _ _ (any-edition _ _ (omega arith) ∙ inside 0 50 _ (omega arith)
     c.before.before.before.before.before.before.before.before.if1.false) refl (refused-steps _ _ _ _ _ _ _ _
-    (c.before.before.before.before.before.before.edition-refusal.ensures ∙ percent-refusal (venueOf s.args.numbers.now) s.args.x
+    (c.before.before.before.before.before.before.edition-refusal.ensures ∙ percent-refusal (venue_of s.args.numbers.now) s.args.x
     s.args.edition) c.before.before.before.before.before.if2.true c.before.before.refuse2.ensures)
 
 set-figure-requires : tie.Need-set-figure-requires
 set-figure-requires c κs =
     let s = c.before.before.before.before.before.before.before.before.before.before.before.before in record {
       whole = s.requires.whole;
-      free = percent-place _ _ _ (sym (c.before.before.before.before.before.before.before.edition-refusal.ensures ∙ percent-refusal (venueOf
+      free = percent-place _ _ _ (sym (c.before.before.before.before.before.before.before.edition-refusal.ensures ∙ percent-refusal (venue_of
           s.args.numbers.now) s.args.x s.args.edition) ∙ c.before.before.before.before.before.before.if2.false);
       value = inr
           (omega arith);
@@ -48,12 +48,12 @@ finish-requires c κs =
     }
 
 returns-3 : tie.Need-returns-3
-unfolding isPercent perform
+unfolding is_percent perform
 returns-3 c =
     let s = c.before.before.before.before.before.before.before.before.before.before.before.before.before.before.before.before.before.before.before.before.before.before.before.before in
     in-steps _ _ _ _ _ _ _ _ _ (any-edition _ _ (omega arith) ∙ inside 0 50 _ (omega arith)
     c.before.before.before.before.before.before.before.before.before.before.before.before.before.before.before.before.before.before.before.before.before.if1.false) refl (done-steps _ _ _ _ _ _ _ _ _ _ _ _ (sym
-    (c.before.before.before.before.before.before.before.before.before.before.before.before.before.before.before.before.before.before.before.edition-refusal.ensures ∙ percent-refusal (venueOf s.args.numbers.now) s.args.x s.args.edition)
+    (c.before.before.before.before.before.before.before.before.before.before.before.before.before.before.before.before.before.before.before.edition-refusal.ensures ∙ percent-refusal (venue_of s.args.numbers.now) s.args.x s.args.edition)
     ∙ c.before.before.before.before.before.before.before.before.before.before.before.before.before.before.before.before.before.before.if2.false) c.before.before.before.before.before.before.before.before.before.before.before.before.before.before.before.before.emit-answer.ensures c.before.before.before.before.before.before.before.before.before.before.before.set-figure.ensures.0
     c.before.before.before.before.finish.ensures)
 

@@ -5,7 +5,7 @@ use Rattle.rules.specs.declared.Venue.{Venue}
 use Rattle.rules.specs.Standing.{settle}
 use Rattle.records.specs.Seen.{seen}
 use Rattle.records.specs.Stage.{◌does◌}
-use Rattle.places.specs.Layout.{venueOf}
+use Rattle.places.specs.Layout.{venue_of}
 use Rattle.places.proofs.Beside.{counts-on}
 use Rattle.market_messages.proofs.Entering.{place-free, figure-set}
 use borrow.Author.Rules.{rules}
@@ -29,7 +29,7 @@ returns c =
     let q = c.before.before.before.before.settle-all.ensures in (
       q.0
           ∙ ap (λ (w : Venue). seen s.args.out.now s.args.at does settle w)
-          (figure-set (venueOf s.args.numbers.now) _ s.args.number s.args.f s.args.x s.args.edition _
+          (figure-set (venue_of s.args.numbers.now) _ s.args.number s.args.f s.args.x s.args.edition _
           c.before.before.before.before.before.before.before.before.before.before.before.free-edition.ensures p.0),
       counts-on _ _ _ p.1 q.1,
     )

@@ -4,7 +4,7 @@ use Rattle.rules.specs.declared.Venue.{Venue}
 use Rattle.rules.specs.Standing.{settle}
 use Rattle.records.specs.Seen.{seen}
 use Rattle.records.specs.Stage.{◌does◌}
-use Rattle.places.specs.Layout.{venueOf}
+use Rattle.places.specs.Layout.{venue_of}
 use Rattle.places.proofs.Beside.{counts-on}
 use Rattle.places.proofs.Parts.{listed-read}
 use Rattle.market_messages.proofs.Setting.{status-set}
@@ -21,7 +21,7 @@ settle-series-requires c κs =
     record {
       whole = p4.put-listed.auto.0 ∙ s.requires.whole;
       right = p4.put-listed.ensures.1.right s.requires.right;
-      others = subst (StandingBut s.args.s) (sym p4.put-listed.ensures.0) (listed-but (venueOf s.args.numbers.now) s.args.s _ s.requires.stand);
+      others = subst (StandingBut s.args.s) (sym p4.put-listed.ensures.0) (listed-but (venue_of s.args.numbers.now) s.args.s _ s.requires.stand);
     }
 
 returns : tie.Need-returns
@@ -29,7 +29,7 @@ returns c = let s = c.before.before.before.before.before.before.before.before.be
     let p = c.before.before.before.before.before.before.before.before.before.put-listed.ensures in
     let q = c.before.before.before.before.settle-series.ensures in (
       q.0 ∙ ap (λ (w : Venue). seen s.args.out.now s.args.at does settle w)
-          (status-set (venueOf s.args.numbers.now) _ s.args.s _
+          (status-set (venue_of s.args.numbers.now) _ s.args.s _
           c.before.before.before.before.before.before.before.before.before.before.before.listed_at.result
           (listed-read _ _ c.before.before.before.before.before.before.before.before.before.before.before.listed_at.result s.requires.series
           c.before.before.before.before.before.before.before.before.before.before.before.listed_at.ensures) p.0),

@@ -1,7 +1,7 @@
 -- `matching::decide` meets its contract.
 use mathlib.Core.Path.{sym, ◌∙◌}
 use native.Mathlib.Omega.{arith}
-use Rattle.places.specs.Layout.{venueOf}
+use Rattle.places.specs.Layout.{venue_of}
 use Rattle.places.proofs.Parts.{regulars-few, regular-at}
 use Rattle.levels.proofs.LevelWithOrder.{series-in}
 use Rattle.matching.specs.Turns.{turn_of}
@@ -18,7 +18,7 @@ unfolding turn_of
 returns c =
     let p2 = c.before.before in
     let p4 = p2.before.before in (
-      turn-idle p4.args.i (venueOf p4.args.numbers.now) _ (p2.regular-at.ensures ∙ sym (regular-at p4.args.numbers.now p4.args.i p4.requires.inUse))
+      turn-idle p4.args.i (venue_of p4.args.numbers.now) _ (p2.regular-at.ensures ∙ sym (regular-at p4.args.numbers.now p4.args.i p4.requires.in_use))
           c.if1.true,
       tt,
     )
@@ -45,7 +45,7 @@ returns-2 c =
     let p7 = p6.before in
     let p9 = p7.before.before in
     let p11 = p9.before.before in (
-      none-hit p11.args.i (venueOf p11.args.numbers.now) _ (p9.regular-at.ensures ∙ sym (regular-at p11.args.numbers.now p11.args.i p11.requires.inUse))
+      none-hit p11.args.i (venue_of p11.args.numbers.now) _ (p9.regular-at.ensures ∙ sym (regular-at p11.args.numbers.now p11.args.i p11.requires.in_use))
           _ p7.if1.false p6.facing.ensures _ (sym p3.enum_told.given.1 ∙ p5.first-met.ensures)
           (sym p2.legging-first.ensures ∙ c.before.if2.true) c.lesser.ensures,
       tt,
@@ -61,7 +61,7 @@ returns-3 c =
     let p8 = p7.before in
     let p10 = p8.before.before in
     let p12 = p10.before.before in (
-      some-hit p12.args.i (venueOf p12.args.numbers.now) _ (p10.regular-at.ensures ∙ sym (regular-at p12.args.numbers.now p12.args.i p12.requires.inUse))
+      some-hit p12.args.i (venue_of p12.args.numbers.now) _ (p10.regular-at.ensures ∙ sym (regular-at p12.args.numbers.now p12.args.i p12.requires.in_use))
           _ p8.if1.false p7.facing.ensures _ _ (sym p4.found.given.1 ∙ p6.first-met.ensures) _
           (sym p2.legging-first2.ensures ∙ c.before.if3.true) c.lesser2.ensures,
       tt,
@@ -76,7 +76,7 @@ returns-4 c =
     let p6 = p5.before in
     let p8 = p6.before.before in
     let p10 = p8.before.before in (
-      none_end p10.args.i (venueOf p10.args.numbers.now) _ (p8.regular-at.ensures ∙ sym (regular-at p10.args.numbers.now p10.args.i p10.requires.inUse))
+      none_end p10.args.i (venue_of p10.args.numbers.now) _ (p8.regular-at.ensures ∙ sym (regular-at p10.args.numbers.now p10.args.i p10.requires.in_use))
           _ p6.if1.false p5.facing.ensures (sym p2.enum_told.given.1 ∙ p4.first-met.ensures)
           (sym c.before.legging-first.ensures ∙ c.if2.false),
       tt,
@@ -94,8 +94,8 @@ returns-5 c =
     let p11 = p9.before.before in
     let p13 = p11.before.before in
     let e = sym p5.found.given.1 ∙ p7.first-met.ensures in (
-      some-meet p13.args.i (venueOf p13.args.numbers.now) _
-          (p11.regular-at.ensures ∙ sym (regular-at p13.args.numbers.now p13.args.i p13.requires.inUse)) _ p9.if1.false p8.facing.ensures _ _ e _ _
+      some-meet p13.args.i (venue_of p13.args.numbers.now) _
+          (p11.regular-at.ensures ∙ sym (regular-at p13.args.numbers.now p13.args.i p13.requires.in_use)) _ p9.if1.false p8.facing.ensures _ _ e _ _
           (sym p3.legging-first2.ensures ∙ p1.before.if3.false) p1.at_once.ensures c.lesser3.ensures,
       met-used p13.args.numbers.now _ _ _ _ _ e,
     )

@@ -3,10 +3,10 @@ use mathlib.Core.Path.{sym, ap, ◌∙◌}
 use Prim.Native.Nat.{ℕ}
 use native.Mathlib.Omega.{arith}
 use Rattle.rules.specs.Effects.{Effect}
-use Rattle.rules.specs.Trading.{putRegular}
+use Rattle.rules.specs.Trading.{put_regular}
 use Rattle.records.specs.Seen.{seen}
 use Rattle.records.specs.Stage.{◌does◌}
-use Rattle.places.specs.Layout.{venueOf}
+use Rattle.places.specs.Layout.{venue_of}
 use Rattle.matching.proofs.TurnsLaws.{enter-law}
 use Rattle.place_writes.proofs.Closed.{dense-regular}
 use borrow.Author.Rules.{rules}
@@ -35,7 +35,7 @@ meet-all-requires c κs =
     let p6 = p4.before.before in
     let s = p6.before.before.before.before in
     let a = p4.add-order.ensures.1 in
-    record { whole = p4.add-order.auto.0 ∙ s.requires.whole; inUse = omega (arith, a.regulars, p6.regulars-used.ensures.0); right = a.right s.requires.dense.right }
+    record { whole = p4.add-order.auto.0 ∙ s.requires.whole; in_use = omega (arith, a.regulars, p6.regulars-used.ensures.0); right = a.right s.requires.dense.right }
 
 returns : tie.Need-returns
 returns c =
@@ -46,10 +46,10 @@ returns c =
     let a = p9.add-order.ensures in
     let m = p4.meet_all.ensures in
     let u = p11.regulars-used.ensures.0 in
-    let v = venueOf p15.args.numbers.now in (
+    let v = venue_of p15.args.numbers.now in (
       m.0
           ∙ ap (λ (e : Effect). seen p15.args.out.now p15.args.at does e)
-          (enter-law p15.args.o v _ _ (u ∙ sym (dense-regular p15.args.numbers.now p15.requires.dense)) (a.0 ∙ ap (λ (k : ℕ). putRegular k p15.args.o v) (sym u))),
+          (enter-law p15.args.o v _ _ (u ∙ sym (dense-regular p15.args.numbers.now p15.requires.dense)) (a.0 ∙ ap (λ (k : ℕ). put_regular k p15.args.o v) (sym u))),
       record { regulars = m.1.regulars ∙ a.1.regulars; complexes = m.1.complexes ∙ a.1.complexes; right = λ h. m.1.right (a.1.right h) },
     )
 

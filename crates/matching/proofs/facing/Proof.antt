@@ -1,7 +1,7 @@
 -- `matching::facing` meets its contract.
 use mathlib.Core.Path.{ap, ◌∙◌}
 use native.Mathlib.Omega.{arith}
-use Rattle.rules.specs.Words.{opposite, placeOf}
+use Rattle.rules.specs.Words.{opposite, place_of}
 use Rattle.trades.proofs.HitsLaws.{opposite-in}
 use Rattle.places.proofs.Parts.{legging-read}
 use borrow.Author.Rules.{rules}
@@ -9,7 +9,7 @@ use Rattle.matching.proofs.facing.Statement.{statement}
 use Rattle.matching.proofs.facing.Tie as tie
 
 legging-at-requires : tie.Need-legging-at-requires
-unfolding placeOf
+unfolding place_of
 legging-at-requires c κs =
     let p3 = c.before.before.before in
     let h = opposite-in p3.args.side in
@@ -20,7 +20,7 @@ returns c =
     let p2 = c.before.before in
     let p4 = p2.before.before in
     legging-read p4.args.numbers.now p4.args.series (opposite p4.args.side) _ _ p4.requires.series (opposite-in _)
-    (c.before.place_of.ensures ∙ ap (placeOf p4.args.series) p2.opposite-of.ensures) c.legging-at.ensures
+    (c.before.place_of.ensures ∙ ap (place_of p4.args.series) p2.opposite-of.ensures) c.legging-at.ensures
 
 pub facing-spec : {M : Type 1} → statement M
 facing-spec =

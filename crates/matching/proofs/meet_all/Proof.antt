@@ -1,7 +1,7 @@
 -- `matching::meet_all` meets its contract.
 use mathlib.Core.Path.{sym, ap, ◌∙◌}
-use Rattle.rules.specs.Order.{meetTurn}
-use Rattle.places.specs.Layout.{venueOf}
+use Rattle.rules.specs.Order.{meet_turn}
+use Rattle.places.specs.Layout.{venue_of}
 use Rattle.matching.specs.Turns.{turn_of}
 use Rattle.matching.proofs.TurnsLaws.{Turning, turning-start, turning-end, turning-stop, turning-turn, turning-room}
 use borrow.Author.Rules.{rules}
@@ -9,7 +9,7 @@ use Rattle.matching.proofs.meet_all.Statement.{statement}
 use Rattle.matching.proofs.meet_all.Tie as tie
 
 abbrev invariant-loop : tie.invariant-loop
-invariant-loop b₀ i quantity out₀ at pos₀ turns₀ b out pos turns = Turning (meetTurn i) quantity b₀ out₀ at b out pos turns
+invariant-loop b₀ i quantity out₀ at pos₀ turns₀ b out pos turns = Turning (meet_turn i) quantity b₀ out₀ at b out pos turns
 
 abbrev decreases-loop : tie.decreases-loop
 decreases-loop b₀ i quantity out₀ at pos₀ turns₀ b out pos turns = turns
@@ -21,7 +21,7 @@ decide-requires : tie.Need-decide-requires invariant-loop decreases-loop
 decide-requires c κs =
     let p2 = c.before.before in
     let p5 = p2.before.before.before in
-    record { whole = p2.loop.invariant.whole; inUse = rw p2.loop.invariant.counts.regulars p5.requires.inUse; right = p2.loop.invariant.counts.right p5.requires.right }
+    record { whole = p2.loop.invariant.whole; in_use = rw p2.loop.invariant.counts.regulars p5.requires.in_use; right = p2.loop.invariant.counts.right p5.requires.right }
 
 same_length : tie.Need-same-length invariant-loop decreases-loop
 same_length c = c.before.before.before.before.before.loop.invariant.whole ∙ sym c.before.before.before.before.before.before.before.before.requires.whole
@@ -35,13 +35,13 @@ returns c =
     let p2 = c.before.before in
     let p5 = p2.before.before.before in
     let p8 = p5.before.before.before in
-    turning-stop p5.loop.invariant (sym (ap (turn_of p8.args.i (venueOf p5.loop.numbers)) c.enum_told.given.1) ∙ p2.decide.ensures.0)
+    turning-stop p5.loop.invariant (sym (ap (turn_of p8.args.i (venue_of p5.loop.numbers)) c.enum_told.given.1) ∙ p2.decide.ensures.0)
 
 hit-requires : tie.Need-hit-requires invariant-loop decreases-loop
 hit-requires c κs =
     let p8 = c.before.before.before.before.before.before.before.before in
     let p11 = p8.before.before.before in
-    record { whole = p8.loop.invariant.whole; inUse = rw p8.loop.invariant.counts.regulars p11.requires.inUse; right = p8.loop.invariant.counts.right p11.requires.right }
+    record { whole = p8.loop.invariant.whole; in_use = rw p8.loop.invariant.counts.regulars p11.requires.in_use; right = p8.loop.invariant.counts.right p11.requires.right }
 
 loop-again : tie.Need-loop-preserved invariant-loop decreases-loop
 unfolding turn_of
@@ -53,7 +53,7 @@ loop-again c =
     let p13 = p12.before in
     let p16 = p13.before.before.before in
     turning-turn p13.loop.invariant _ _ _ _ p12.loop-test.true
-    (sym (ap (turn_of p16.args.i (venueOf p13.loop.numbers)) p8.plan.given.1) ∙ p10.decide.ensures.0) p4.hit.auto.0 p4.hit.ensures
+    (sym (ap (turn_of p16.args.i (venue_of p13.loop.numbers)) p8.plan.given.1) ∙ p10.decide.ensures.0) p4.hit.auto.0 p4.hit.ensures
 
 meet-requires : tie.Need-meet-requires invariant-loop decreases-loop
 meet-requires c κs =
@@ -61,7 +61,7 @@ meet-requires c κs =
     let p5 = p3.before.before in
     let p8 = p5.before.before.before in
     let p11 = p8.before.before.before in
-    record { whole = p8.loop.invariant.whole; first = rw p8.loop.invariant.counts.regulars p11.requires.inUse; second = rw p3.plan2.given.1 at p5.decide.ensures.1 }
+    record { whole = p8.loop.invariant.whole; first = rw p8.loop.invariant.counts.regulars p11.requires.in_use; second = rw p3.plan2.given.1 at p5.decide.ensures.1 }
 
 loop-again-2 : tie.Need-loop-preserved-2 invariant-loop decreases-loop
 unfolding turn_of
@@ -73,7 +73,7 @@ loop-again-2 c =
     let p13 = p12.before in
     let p16 = p13.before.before.before in
     turning-turn p13.loop.invariant _ _ _ _ p12.loop-test.true
-    (sym (ap (turn_of p16.args.i (venueOf p13.loop.numbers)) p8.plan2.given.1) ∙ p10.decide.ensures.0) p4.meet.auto.0 p4.meet.ensures
+    (sym (ap (turn_of p16.args.i (venue_of p13.loop.numbers)) p8.plan2.given.1) ∙ p10.decide.ensures.0) p4.meet.auto.0 p4.meet.ensures
 
 same-length-3 : tie.Need-same-length-3 invariant-loop decreases-loop
 same-length-3 c = c.before.loop.invariant.whole ∙ sym c.before.before.before.before.requires.whole

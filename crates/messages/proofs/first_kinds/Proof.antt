@@ -3,9 +3,9 @@ use mathlib.Core.Path.{◌≡◌, refl, sym, ap, ◌∙◌}
 use Prim.Native.Nat.{ℕ}
 use native.Mathlib.Omega.{arith}
 use Rattle.rules.specs.declared.Message.TheVariants.{Order, TwoLeg, Cancel}
-use Rattle.rules.specs.Bytes.{u16At}
+use Rattle.rules.specs.Bytes.{u16_at}
 use Rattle.rules.specs.Messages.{length_of, order_at}
-use Rattle.rules.specs.Refusals.{twoLegInRange, farOf, in_range}
+use Rattle.rules.specs.Refusals.{two_leg_in_range, far_of, in_range}
 use Rattle.rules.proofs.Showing.{message-fully}
 use Rattle.wire.proofs.Decoding.{message-order, message-two-leg, message-cancel}
 use Rattle.messages.proofs.Dispatching.{kind-steps, framed-room, not_equal, pair_one}
@@ -19,7 +19,7 @@ word-at-requires c κs =
     let s = c.before.before.before.before in
     let bs = s.args.message.now in
     let f = s.requires.framed in
-    let e : u16At bs 2 ≡ 1 = omega arith in
+    let e : u16_at bs 2 ≡ 1 = omega arith in
     let n = framed-room bs 1 f e in
     omega arith
 
@@ -29,7 +29,7 @@ order-at-requires c κs =
     let s = c.before.before.before.before.before in
     let bs = s.args.message.now in
     let f = s.requires.framed in
-    let e : u16At bs 2 ≡ 1 = omega arith in
+    let e : u16_at bs 2 ≡ 1 = omega arith in
     let n = framed-room bs 1 f e in
     omega arith
 
@@ -38,7 +38,7 @@ order-step-requires c κs =
     let s = c.before.before.before.before.before.before.before.before in
     let bs = s.args.message.now in
     let f = s.requires.framed in
-    let e : u16At bs 2 ≡ 1 = omega arith in record {
+    let e : u16_at bs 2 ≡ 1 = omega arith in record {
       whole = s.requires.whole;
       dense = s.requires.dense;
       sound = s.requires.sound;
@@ -52,7 +52,7 @@ returns c =
     let s = c.before.before.before.before.before.before.before.before.before.before.before.before.before in
     let bs = s.args.message.now in
     let f = s.requires.framed in
-    let e : u16At bs 2 ≡ 1 = omega arith in
+    let e : u16_at bs 2 ≡ 1 = omega arith in
     kind-steps _ _ _ _ _ _ _ f _ _ _ (message-order bs e ∙ ap Order (sym (c.before.before.before.before.before.before.before.order-at.ensures ∙ ap
     (λ (x : ℕ). order_at x bs) c.before.before.before.before.before.before.before.before.word_at.ensures))) refl (not_equal bs 1 e refl)
     c.before.before.before.before.order-step.ensures
@@ -63,7 +63,7 @@ two-leg-at-requires c κs =
     let s = c.before.before.before.before.before in
     let bs = s.args.message.now in
     let f = s.requires.framed in
-    let e : u16At bs 2 ≡ 2 = omega arith in
+    let e : u16_at bs 2 ≡ 2 = omega arith in
     let n = framed-room bs 2 f e in
     omega arith
 
@@ -73,14 +73,14 @@ pair-step-requires c κs =
     record { whole = s.requires.whole; dense = s.requires.dense; sound = s.requires.sound; pair = pair_one _ _ c.before.before.two-leg-at.ensures }
 
 returns-2 : tie.Need-returns-2
-unfolding in_range farOf
+unfolding in_range far_of
 returns-2 c =
     let s = c.before.before.before.before.before.before.before.before.before.before.before.before.before in
     let bs = s.args.message.now in
     let f = s.requires.framed in
-    let e : u16At bs 2 ≡ 2 = omega arith in
+    let e : u16_at bs 2 ≡ 2 = omega arith in
     kind-steps _ _ _ _ _ _ _ f _ _ _ (message-two-leg bs e ∙ ap TwoLeg (sym
-    c.before.before.before.before.before.before.before.two-leg-at.ensures)) (ap (λ (k : ℕ). twoLegInRange (farOf k)
+    c.before.before.before.before.before.before.before.two-leg-at.ensures)) (ap (λ (k : ℕ). two_leg_in_range (far_of k)
     c.before.before.before.before.before.before.before.two-leg-at.result) e) (not_equal bs 2 e refl)
     c.before.before.before.before.Pair-step.ensures
 
@@ -90,7 +90,7 @@ word-at-requires-2 c κs =
     let s = c.before.before.before.before.before in
     let bs = s.args.message.now in
     let f = s.requires.framed in
-    let e : u16At bs 2 ≡ 3 = omega arith in
+    let e : u16_at bs 2 ≡ 3 = omega arith in
     let n = framed-room bs 3 f e in
     omega arith
 
@@ -100,7 +100,7 @@ returns-3 c =
     let s = c.before.before.before.before.before.before.before.before.before.before.before.before.before in
     let bs = s.args.message.now in
     let f = s.requires.framed in
-    let e : u16At bs 2 ≡ 3 = omega arith in
+    let e : u16_at bs 2 ≡ 3 = omega arith in
     kind-steps _ _ _ _ _ _ _ f _ _ _ (message-cancel bs e ∙ ap Cancel (sym
     c.before.before.before.before.before.before.before.word-at2.ensures)) refl (not_equal bs 3 e refl)
     c.before.before.before.before.cancel-step.ensures

@@ -3,9 +3,9 @@ use mathlib.Core.Path.{◌≡◌, refl, sym, ap, ap₂, ◌∙◌}
 use Prim.Native.Nat.{ℕ}
 use native.Mathlib.Omega.{arith}
 use Rattle.rules.specs.declared.Message.TheVariants.{Order, TwoLeg, Increment, Percent, LimitedSweep}
-use Rattle.rules.specs.Bytes.{u16At}
-use Rattle.rules.specs.Messages.{length_of, order_at, twoLegAt, messageOf}
-use Rattle.rules.specs.Refusals.{twoLegInRange, farOf, in_range}
+use Rattle.rules.specs.Bytes.{u16_at}
+use Rattle.rules.specs.Messages.{length_of, order_at, two_leg_at, message_of}
+use Rattle.rules.specs.Refusals.{two_leg_in_range, far_of, in_range}
 use Rattle.rules.proofs.Showing.{message-fully}
 use Rattle.wire.proofs.Decoding.{message-increment, message-percent, message-reserve, message-ratios, message-limited}
 use Rattle.messages.proofs.Dispatching.{kind-steps, framed-room, not_equal, ratios-equal}
@@ -19,7 +19,7 @@ byte-at-requires c κs =
     let s = c.before.before.before.before in
     let bs = s.args.message.now in
     let f = s.requires.framed in
-    let e : u16At bs 2 ≡ 7 = omega arith in
+    let e : u16_at bs 2 ≡ 7 = omega arith in
     let n = framed-room bs 7 f e in
     omega arith
 
@@ -29,7 +29,7 @@ byte-at-requires-2 c κs =
     let s = c.before.before.before.before.before in
     let bs = s.args.message.now in
     let f = s.requires.framed in
-    let e : u16At bs 2 ≡ 7 = omega arith in
+    let e : u16_at bs 2 ≡ 7 = omega arith in
     let n = framed-room bs 7 f e in
     omega arith
 
@@ -39,7 +39,7 @@ word-at-requires c κs =
     let s = c.before.before.before.before.before.before in
     let bs = s.args.message.now in
     let f = s.requires.framed in
-    let e : u16At bs 2 ≡ 7 = omega arith in
+    let e : u16_at bs 2 ≡ 7 = omega arith in
     let n = framed-room bs 7 f e in
     omega arith
 
@@ -49,8 +49,8 @@ returns c =
     let s = c.before.before.before.before.before.before.before.before.before.before.before.before.before.before in
     let bs = s.args.message.now in
     let f = s.requires.framed in
-    let e : u16At bs 2 ≡ 7 = omega arith in
-    let p : messageOf bs ≡ Increment c.before.before.before.before.before.before.before.before.before.byte_at.result
+    let e : u16_at bs 2 ≡ 7 = omega arith in
+    let p : message_of bs ≡ Increment c.before.before.before.before.before.before.before.before.before.byte_at.result
     c.before.before.before.before.before.before.before.before.byte-at2.result
     c.before.before.before.before.before.before.before.word_at.result = rw (
       c.before.before.before.before.before.before.before.before.before.byte_at.ensures,
@@ -65,7 +65,7 @@ byte-at-requires-3 c κs =
     let s = c.before.before.before.before.before in
     let bs = s.args.message.now in
     let f = s.requires.framed in
-    let e : u16At bs 2 ≡ 8 = omega arith in
+    let e : u16_at bs 2 ≡ 8 = omega arith in
     let n = framed-room bs 8 f e in
     omega arith
 
@@ -75,7 +75,7 @@ word-at-requires-2 c κs =
     let s = c.before.before.before.before.before.before in
     let bs = s.args.message.now in
     let f = s.requires.framed in
-    let e : u16At bs 2 ≡ 8 = omega arith in
+    let e : u16_at bs 2 ≡ 8 = omega arith in
     let n = framed-room bs 8 f e in
     omega arith
 
@@ -85,8 +85,8 @@ returns-2 c =
     let s = c.before.before.before.before.before.before.before.before.before.before.before.before.before.before in
     let bs = s.args.message.now in
     let f = s.requires.framed in
-    let e : u16At bs 2 ≡ 8 = omega arith in
-    let p : messageOf bs ≡ Percent c.before.before.before.before.before.before.before.before.byte-at3.result
+    let e : u16_at bs 2 ≡ 8 = omega arith in
+    let p : message_of bs ≡ Percent c.before.before.before.before.before.before.before.before.byte-at3.result
     c.before.before.before.before.before.before.before.word-at2.result = rw (
       c.before.before.before.before.before.before.before.before.byte-at3.ensures,
       c.before.before.before.before.before.before.before.word-at2.ensures,
@@ -99,7 +99,7 @@ word-at-requires-3 c κs =
     let s = c.before.before.before.before.before.before in
     let bs = s.args.message.now in
     let f = s.requires.framed in
-    let e : u16At bs 2 ≡ 9 = omega arith in
+    let e : u16_at bs 2 ≡ 9 = omega arith in
     let n = framed-room bs 9 f e in
     omega arith
 
@@ -109,7 +109,7 @@ order-at-requires c κs =
     let s = c.before.before.before.before.before.before.before in
     let bs = s.args.message.now in
     let f = s.requires.framed in
-    let e : u16At bs 2 ≡ 9 = omega arith in
+    let e : u16_at bs 2 ≡ 9 = omega arith in
     let n = framed-room bs 9 f e in
     omega arith
 
@@ -118,7 +118,7 @@ order-step-requires c κs =
     let s = c.before.before.before.before.before.before.before.before.before.before in
     let bs = s.args.message.now in
     let f = s.requires.framed in
-    let e : u16At bs 2 ≡ 9 = omega arith in record {
+    let e : u16_at bs 2 ≡ 9 = omega arith in record {
       whole = s.requires.whole;
       dense = s.requires.dense;
       sound = s.requires.sound;
@@ -132,7 +132,7 @@ returns-3 c =
     let s = c.before.before.before.before.before.before.before.before.before.before.before.before.before.before.before in
     let bs = s.args.message.now in
     let f = s.requires.framed in
-    let e : u16At bs 2 ≡ 9 = omega arith in
+    let e : u16_at bs 2 ≡ 9 = omega arith in
     kind-steps _ _ _ _ _ _ _ f _ _ _ (message-reserve bs e ∙ ap Order (sym (c.before.before.before.before.before.before.before.order-at.ensures
     ∙ ap (λ (x : ℕ). order_at x bs) c.before.before.before.before.before.before.before.before.word-at3.ensures))) refl (not_equal bs 9 e refl)
     c.before.before.before.before.order-step.ensures
@@ -143,7 +143,7 @@ byte-at-requires-4 c κs =
     let s = c.before.before.before.before.before.before.before in
     let bs = s.args.message.now in
     let f = s.requires.framed in
-    let e : u16At bs 2 ≡ 10 = omega arith in
+    let e : u16_at bs 2 ≡ 10 = omega arith in
     let n = framed-room bs 10 f e in
     omega arith
 
@@ -153,7 +153,7 @@ byte-at-requires-5 c κs =
     let s = c.before.before.before.before.before.before.before.before in
     let bs = s.args.message.now in
     let f = s.requires.framed in
-    let e : u16At bs 2 ≡ 10 = omega arith in
+    let e : u16_at bs 2 ≡ 10 = omega arith in
     let n = framed-room bs 10 f e in
     omega arith
 
@@ -163,21 +163,21 @@ two-leg-at-requires c κs =
     let s = c.before.before.before.before.before.before.before.before.before in
     let bs = s.args.message.now in
     let f = s.requires.framed in
-    let e : u16At bs 2 ≡ 10 = omega arith in
+    let e : u16_at bs 2 ≡ 10 = omega arith in
     let n = framed-room bs 10 f e in
     omega arith
 
 returns-4 : tie.Need-returns-4
-unfolding in_range farOf
+unfolding in_range far_of
 returns-4 c =
     let s = c.before.before.before.before.before.before.before.before.before.before.before.before.before.before.before.before.before in
     let bs = s.args.message.now in
     let f = s.requires.framed in
-    let e : u16At bs 2 ≡ 10 = omega arith in
-    let w = c.before.before.before.before.before.before.before.two-leg-at.ensures ∙ ap₂ (twoLegAt bs)
+    let e : u16_at bs 2 ≡ 10 = omega arith in
+    let w = c.before.before.before.before.before.before.before.two-leg-at.ensures ∙ ap₂ (two_leg_at bs)
     c.before.before.before.before.before.before.before.before.before.byte-at4.ensures
     c.before.before.before.before.before.before.before.before.byte-at5.ensures in
-    kind-steps _ _ _ _ _ _ _ f _ _ _ (message-ratios bs e ∙ ap TwoLeg (sym w)) (ap (λ (k : ℕ). twoLegInRange (farOf k)
+    kind-steps _ _ _ _ _ _ _ f _ _ _ (message-ratios bs e ∙ ap TwoLeg (sym w)) (ap (λ (k : ℕ). two_leg_in_range (far_of k)
     c.before.before.before.before.before.before.before.two-leg-at.result) e) (ratios-equal bs _ e w)
     c.before.before.before.before.ratio-step.ensures
 
@@ -187,7 +187,7 @@ byte-at-requires-6 c κs =
     let s = c.before.before.before.before.before.before.before in
     let bs = s.args.message.now in
     let f = s.requires.framed in
-    let e : u16At bs 2 ≡ 11 = omega arith in
+    let e : u16_at bs 2 ≡ 11 = omega arith in
     let n = framed-room bs 11 f e in
     omega arith
 
@@ -197,8 +197,8 @@ returns-5 c =
     let s = c.before.before.before.before.before.before.before.before.before.before.before.before.before.before.before in
     let bs = s.args.message.now in
     let f = s.requires.framed in
-    let e : u16At bs 2 ≡ 11 = omega arith in
-    let p : messageOf bs ≡ LimitedSweep c.before.before.before.before.before.before.before.byte-at6.result = rw
+    let e : u16_at bs 2 ≡ 11 = omega arith in
+    let p : message_of bs ≡ LimitedSweep c.before.before.before.before.before.before.before.byte-at6.result = rw
     c.before.before.before.before.before.before.before.byte-at6.ensures (message-limited bs e) in
     kind-steps _ _ _ _ _ _ _ f _ _ _ p refl (not_equal bs 11 e refl) c.before.before.before.before.limited-step.ensures
 

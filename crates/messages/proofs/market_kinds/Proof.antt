@@ -2,8 +2,8 @@
 use mathlib.Core.Path.{◌≡◌, refl}
 use native.Mathlib.Omega.{arith}
 use Rattle.rules.specs.declared.Message.TheVariants.{Away, Status}
-use Rattle.rules.specs.Bytes.{u16At}
-use Rattle.rules.specs.Messages.{length_of, messageOf}
+use Rattle.rules.specs.Bytes.{u16_at}
+use Rattle.rules.specs.Messages.{length_of, message_of}
 use Rattle.rules.specs.Refusals.{in_range}
 use Rattle.wire.proofs.Decoding.{message-away, message-status, message-sweep}
 use Rattle.answers.proofs.Answering.{in-steps}
@@ -18,7 +18,7 @@ byte-at-requires c κs =
     let s = c.before.before.before.before in
     let bs = s.args.message.now in
     let f = s.requires.framed in
-    let e : u16At bs 2 ≡ 4 = omega arith in
+    let e : u16_at bs 2 ≡ 4 = omega arith in
     let n = framed-room bs 4 f e in
     omega arith
 
@@ -28,7 +28,7 @@ word-at-requires c κs =
     let s = c.before.before.before.before.before in
     let bs = s.args.message.now in
     let f = s.requires.framed in
-    let e : u16At bs 2 ≡ 4 = omega arith in
+    let e : u16_at bs 2 ≡ 4 = omega arith in
     let n = framed-room bs 4 f e in
     omega arith
 
@@ -38,7 +38,7 @@ word-at-requires-2 c κs =
     let s = c.before.before.before.before.before.before in
     let bs = s.args.message.now in
     let f = s.requires.framed in
-    let e : u16At bs 2 ≡ 4 = omega arith in
+    let e : u16_at bs 2 ≡ 4 = omega arith in
     let n = framed-room bs 4 f e in
     omega arith
 
@@ -48,8 +48,8 @@ returns c =
     let s = c.before.before.before.before.before.before.before.before.before.before.before.before.before.before in
     let bs = s.args.message.now in
     let f = s.requires.framed in
-    let e : u16At bs 2 ≡ 4 = omega arith in
-    let p : messageOf bs ≡ Away c.before.before.before.before.before.before.before.before.before.byte_at.result
+    let e : u16_at bs 2 ≡ 4 = omega arith in
+    let p : message_of bs ≡ Away c.before.before.before.before.before.before.before.before.before.byte_at.result
     c.before.before.before.before.before.before.before.before.word_at.result
     c.before.before.before.before.before.before.before.word-at2.result = rw (
       c.before.before.before.before.before.before.before.before.before.byte_at.ensures,
@@ -64,7 +64,7 @@ byte-at-requires-2 c κs =
     let s = c.before.before.before.before.before in
     let bs = s.args.message.now in
     let f = s.requires.framed in
-    let e : u16At bs 2 ≡ 5 = omega arith in
+    let e : u16_at bs 2 ≡ 5 = omega arith in
     let n = framed-room bs 5 f e in
     omega arith
 
@@ -74,7 +74,7 @@ byte-at-requires-3 c κs =
     let s = c.before.before.before.before.before.before in
     let bs = s.args.message.now in
     let f = s.requires.framed in
-    let e : u16At bs 2 ≡ 5 = omega arith in
+    let e : u16_at bs 2 ≡ 5 = omega arith in
     let n = framed-room bs 5 f e in
     omega arith
 
@@ -84,8 +84,8 @@ returns-2 c =
     let s = c.before.before.before.before.before.before.before.before.before.before.before.before.before.before in
     let bs = s.args.message.now in
     let f = s.requires.framed in
-    let e : u16At bs 2 ≡ 5 = omega arith in
-    let p : messageOf bs ≡ Status c.before.before.before.before.before.before.before.before.byte-at2.result
+    let e : u16_at bs 2 ≡ 5 = omega arith in
+    let p : message_of bs ≡ Status c.before.before.before.before.before.before.before.before.byte-at2.result
     c.before.before.before.before.before.before.before.byte-at3.result = rw (
       c.before.before.before.before.before.before.before.before.byte-at2.ensures,
       c.before.before.before.before.before.before.before.byte-at3.ensures,
@@ -98,7 +98,7 @@ returns-3 c =
     let s = c.before.before.before.before.before.before.before.before.before.before.before.before in
     let bs = s.args.message.now in
     let f = s.requires.framed in
-    let e : u16At bs 2 ≡ 6 = omega arith in
+    let e : u16_at bs 2 ≡ 6 = omega arith in
     kind-steps _ _ _ _ _ _ _ f _ _ _ (message-sweep bs e) refl (not_equal bs 6 e refl) (in-steps _ _ _ _ _ _ _ _ _ refl refl
     c.before.before.before.before.sweep-step.ensures)
 

@@ -1,6 +1,6 @@
 -- `messages::try_step` meets its contract.
 use native.Mathlib.Omega.{arith}
-use Rattle.places.specs.Layout.{venueOf}
+use Rattle.places.specs.Layout.{venue_of}
 use Rattle.messages.proofs.Trying.{tries-roomy}
 use borrow.Author.Rules.{rules}
 use Rattle.messages.proofs.try_step.Statement.{statement}
@@ -8,7 +8,7 @@ use Rattle.messages.proofs.try_step.Tie as tie
 
 returns-2 : tie.Need-returns-2
 returns-2 c = let s = c.before.before.before.before.before.before.before.before.before.before.before in
-    tries-roomy (venueOf s.args.numbers.now) s.args.number s.args.message.now _ _ _ _ _ s.requires.sound (omega arith)
+    tries-roomy (venue_of s.args.numbers.now) s.args.number s.args.message.now _ _ _ _ _ s.requires.sound (omega arith)
     c.before.before.before.before.step.ensures
 
 pub try-step-spec : {M : Type 1} → statement M

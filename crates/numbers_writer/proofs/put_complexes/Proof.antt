@@ -5,10 +5,10 @@ use Prim.Native.Nat.{ℕ, ◌+◌, ◌-◌, ◌*◌, ◌≤◌}
 use native.Mathlib.Omega.{arith}
 use lib.ListN.{length}
 use borrow.Author.Rules.{rules}
-use Rattle.rules.specs.Words.{noComplex, complexAt}
-use Rattle.places.specs.Layout.{complexIn, complexesUsed, venueOf}
+use Rattle.rules.specs.Words.{no_complex, complex_at}
+use Rattle.places.specs.Layout.{complex_in, complexes_used, venue_of}
 use Rattle.places.proofs.Parts.{complexes-few, complex-at}
-use Rattle.venue_bytes.specs.Held.{complexBytes}
+use Rattle.venue_bytes.specs.Held.{complex_bytes}
 use Rattle.venue_bytes.proofs.Rows.{Written, written_none, written-room, written_next}
 use Rattle.venue_bytes.proofs.Widths.{complex-width}
 use Rattle.numbers_writer.proofs.Tables.{complex-blank, used-written, complexes-many}
@@ -16,31 +16,31 @@ use Rattle.numbers_writer.proofs.put_complexes.Statement.{statement}
 use Rattle.numbers_writer.proofs.put_complexes.Tie as tie
 
 abbrev invariant-loop : tie.invariant-loop
-invariant-loop out₀ numbers n i₀ out i = (i ≤ n) × Written complexBytes 1792 (venueOf numbers).complex out₀ out i
+invariant-loop out₀ numbers n i₀ out i = (i ≤ n) × Written complex_bytes 1792 (venue_of numbers).complex out₀ out i
 
 abbrev decreases-loop : tie.decreases-loop
 decreases-loop out₀ numbers n i₀ out i = n - i
 
-fits : (s : tie.Start invariant-loop decreases-loop) → 17 * length (venueOf s.args.numbers.now).complex + 1792 ≤ length s.args.out.now
+fits : (s : tie.Start invariant-loop decreases-loop) → 17 * length (venue_of s.args.numbers.now).complex + 1792 ≤ length s.args.out.now
 fits s = omega (arith, complexes-many s.args.numbers.now, s.requires.bytes)
 
 complexes-used-requires : tie.Need-complexes-used-requires invariant-loop decreases-loop
 complexes-used-requires c κs = c.before.before.requires.whole
 
 loop-holds : tie.Need-loop-init invariant-loop decreases-loop
-loop-holds c = (omega arith, written_none complexBytes 1792 _ _)
+loop-holds c = (omega arith, written_none complex_bytes 1792 _ _)
 
 complex-at-requires : tie.Need-complex-at-requires invariant-loop decreases-loop
 complex-at-requires c κs = record { whole = c.before.before.before.before.before.requires.whole; place = omega arith }
 
 loop-again : tie.Need-loop-preserved invariant-loop decreases-loop
-unfolding complexAt
+unfolding complex_at
 loop-again c =
     let s = c.before.before.before.before.before.before.before.before.before.before in
     let h = c.before.before.before.before.before.before in
     let b : List ℕ = s.args.numbers.now in (
       omega arith,
-      written_next complexBytes 17 complex-width 1792 (venueOf b).complex s.args.out.now (fits s) h.loop.out h.loop.i h.loop.invariant.1 _ _ _ _
+      written_next complex_bytes 17 complex-width 1792 (venue_of b).complex s.args.out.now (fits s) h.loop.out h.loop.i h.loop.invariant.1 _ _ _ _
           (omega (arith, complexes-many b)) (c.before.before.before.before.complex-at.ensures ∙ sym (complex-at b h.loop.i (omega arith))) (omega arith)
           c.before.before.put-complex.ensures,
     )
@@ -50,7 +50,7 @@ room : (t : tie.After-loop invariant-loop decreases-loop) → length t.before.lo
 room t =
     let s = t.before.before.before.before.before in
     let h = t.before in
-    written-room complexBytes 17 complex-width 1792 (venueOf s.args.numbers.now).complex s.args.out.now (fits s) h.loop.out h.loop.i h.loop.invariant.1
+    written-room complex_bytes 17 complex-width 1792 (venue_of s.args.numbers.now).complex s.args.out.now (fits s) h.loop.out h.loop.i h.loop.invariant.1
 
 clear-requires : tie.Need-clear-requires invariant-loop decreases-loop
 clear-requires c κs = let t = c.before in record { rises = omega arith; within = omega (arith, room t, t.before.before.before.before.before.requires.bytes) }
@@ -59,14 +59,14 @@ same_length : tie.Need-same-length invariant-loop decreases-loop
 same_length c = c.before.before.clear.auto.0 ∙ room c.before.before.before.before
 
 returns : tie.Need-returns invariant-loop decreases-loop
-unfolding venueOf
+unfolding venue_of
 returns c =
     let s = c.before.before.before.before.before.before.before.before.before in
     let h = c.before.before.before.before.before in
     let b : List ℕ = s.args.numbers.now in
     let n : ℕ = h.before.complexes-used.result in
     let at : ℕ = 17 * n + 1792 in
-    used-written complexBytes 17 noComplex complex-blank complex-width (complexIn b) (complexesUsed b) 32 (complexes-few b) 1792 at s.args.out.now h.loop.out _ h.loop.i (2336 - at)
+    used-written complex_bytes 17 no_complex complex-blank complex-width (complex_in b) (complexes_used b) 32 (complexes-few b) 1792 at s.args.out.now h.loop.out _ h.loop.i (2336 - at)
     (omega (arith, s.requires.bytes)) (omega arith) h.loop.invariant.1 (omega arith) (omega arith) c.before.before.clear.ensures
 
 pub put-complexes-spec : {M : Type 1} → statement M

@@ -5,8 +5,8 @@ use Prim.Native.Nat.{ℕ}
 use lib.ListN.{length}
 use Rattle.rules.specs.Bytes.{u32}
 use Rattle.records.specs.Seen.{seen, ◌plus◌}
-use Rattle.places.specs.Layout.{venueOf}
-use Rattle.venue_bytes.specs.Held.{reachedAt}
+use Rattle.places.specs.Layout.{venue_of}
+use Rattle.venue_bytes.specs.Held.{reached_at}
 use Rattle.venue_writer.proofs.Whole.{venue-put}
 use Rattle.numbers_writer.proofs.Tables.{venue-sized}
 use borrow.Author.Rules.{rules}
@@ -56,12 +56,12 @@ returns c =
     let x = g.before.before.before.before in
     let s = start t in
     let b : List ℕ = s.args.numbers.now in
-    venue-put (venueOf b) (venue-sized b) s.args.out.now _ _ _ _ _ _ _ _ _ _ _ _ s.pre.bytes
+    venue-put (venue_of b) (venue-sized b) s.args.out.now _ _ _ _ _ _ _ _ _ _ _ _ s.pre.bytes
     x.before.before.before.before.put-regulars.ensures x.put-complexes.ensures g.put-leggings.ensures
     d.put-series.ensures
     (l.put.ensures ∙ ap (λ (y : List ℕ). seen d.put-series.last.0 2600 plus y) (l.before.before.before.bytes4.ensures ∙ ap u32 l.before.before.before.before.last-id.ensures))
     e.put-editions.ensures h.put-reserves.ensures t.put-ratios.ensures n.put-all-generations.ensures
-    (z.put2.ensures ∙ ap (λ (y : List ℕ). seen n.put-all-generations.new.0 reachedAt plus y)
+    (z.put2.ensures ∙ ap (λ (y : List ℕ). seen n.put-all-generations.new.0 reached_at plus y)
     (z.before.before.before.bytes42.ensures ∙ ap u32 z.before.before.before.before.reached-id.ensures))
 
 pub put-numbers-spec : {M : Type 1} → statement M

@@ -5,10 +5,10 @@ use Prim.Native.Nat.{ℕ, ◌+◌, ◌-◌, ◌*◌, ◌≤◌}
 use native.Mathlib.Omega.{arith}
 use lib.ListN.{length}
 use borrow.Author.Rules.{rules}
-use Rattle.rules.specs.Words.{noRegular, regularAt}
-use Rattle.places.specs.Layout.{regularIn, regularsUsed, venueOf}
+use Rattle.rules.specs.Words.{no_regular, regular_at}
+use Rattle.places.specs.Layout.{regular_in, regulars_used, venue_of}
 use Rattle.places.proofs.Parts.{regulars-few, regulars-many, regular-at}
-use Rattle.venue_bytes.specs.Held.{regularBytes}
+use Rattle.venue_bytes.specs.Held.{regular_bytes}
 use Rattle.venue_bytes.proofs.Rows.{Written, written_none, written-room, written_next}
 use Rattle.venue_bytes.proofs.Widths.{regular-width}
 use Rattle.numbers_writer.proofs.Tables.{regular-blank, used-written}
@@ -16,31 +16,31 @@ use Rattle.numbers_writer.proofs.put_regulars.Statement.{statement}
 use Rattle.numbers_writer.proofs.put_regulars.Tie as tie
 
 abbrev invariant-loop : tie.invariant-loop
-invariant-loop out₀ numbers n i₀ out i = (i ≤ n) × Written regularBytes 0 (venueOf numbers).regular out₀ out i
+invariant-loop out₀ numbers n i₀ out i = (i ≤ n) × Written regular_bytes 0 (venue_of numbers).regular out₀ out i
 
 abbrev decreases-loop : tie.decreases-loop
 decreases-loop out₀ numbers n i₀ out i = n - i
 
-fits : (s : tie.Start invariant-loop decreases-loop) → 14 * length (venueOf s.args.numbers.now).regular + 0 ≤ length s.args.out.now
+fits : (s : tie.Start invariant-loop decreases-loop) → 14 * length (venue_of s.args.numbers.now).regular + 0 ≤ length s.args.out.now
 fits s = omega (arith, regulars-many s.args.numbers.now, s.requires.bytes)
 
 regulars-used-requires : tie.Need-regulars-used-requires invariant-loop decreases-loop
 regulars-used-requires c κs = c.before.before.requires.whole
 
 loop-holds : tie.Need-loop-init invariant-loop decreases-loop
-loop-holds c = (omega arith, written_none regularBytes 0 _ _)
+loop-holds c = (omega arith, written_none regular_bytes 0 _ _)
 
 regular-at-requires : tie.Need-regular-at-requires invariant-loop decreases-loop
 regular-at-requires c κs = record { whole = c.before.before.before.before.before.requires.whole; place = omega arith }
 
 loop-again : tie.Need-loop-preserved invariant-loop decreases-loop
-unfolding regularAt
+unfolding regular_at
 loop-again c =
     let s = c.before.before.before.before.before.before.before.before.before.before in
     let h = c.before.before.before.before.before.before in
     let b : List ℕ = s.args.numbers.now in (
       omega arith,
-      written_next regularBytes 14 regular-width 0 (venueOf b).regular s.args.out.now (fits s) h.loop.out h.loop.i h.loop.invariant.1 _ _ _ _
+      written_next regular_bytes 14 regular-width 0 (venue_of b).regular s.args.out.now (fits s) h.loop.out h.loop.i h.loop.invariant.1 _ _ _ _
           (omega (arith, regulars-many b)) (c.before.before.before.before.regular-at.ensures ∙ sym (regular-at b h.loop.i (omega arith))) (omega arith)
           c.before.before.put-regular.ensures,
     )
@@ -50,7 +50,7 @@ room : (t : tie.After-loop invariant-loop decreases-loop) → length t.before.lo
 room t =
     let s = t.before.before.before.before.before in
     let h = t.before in
-    written-room regularBytes 14 regular-width 0 (venueOf s.args.numbers.now).regular s.args.out.now (fits s) h.loop.out h.loop.i h.loop.invariant.1
+    written-room regular_bytes 14 regular-width 0 (venue_of s.args.numbers.now).regular s.args.out.now (fits s) h.loop.out h.loop.i h.loop.invariant.1
 
 clear-requires : tie.Need-clear-requires invariant-loop decreases-loop
 clear-requires c κs = let t = c.before in record { rises = omega arith; within = omega (arith, room t, t.before.before.before.before.before.requires.bytes) }
@@ -59,14 +59,14 @@ same_length : tie.Need-same-length invariant-loop decreases-loop
 same_length c = c.before.before.clear.auto.0 ∙ room c.before.before.before.before
 
 returns : tie.Need-returns invariant-loop decreases-loop
-unfolding venueOf
+unfolding venue_of
 returns c =
     let s = c.before.before.before.before.before.before.before.before.before in
     let h = c.before.before.before.before.before in
     let b : List ℕ = s.args.numbers.now in
     let n : ℕ = h.before.regulars-used.result in
     let at : ℕ = 14 * n in
-    used-written regularBytes 14 noRegular regular-blank regular-width (regularIn b) (regularsUsed b) 128 (regulars-few b) 0 at s.args.out.now h.loop.out _ h.loop.i (1792 - at)
+    used-written regular_bytes 14 no_regular regular-blank regular-width (regular_in b) (regulars_used b) 128 (regulars-few b) 0 at s.args.out.now h.loop.out _ h.loop.i (1792 - at)
     (omega (arith, s.requires.bytes)) (omega arith) h.loop.invariant.1 (omega arith) (omega arith) c.before.before.clear.ensures
 
 pub put-regulars-spec : {M : Type 1} → statement M

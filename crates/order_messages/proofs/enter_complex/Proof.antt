@@ -5,7 +5,7 @@ use native.Mathlib.Omega.{arith}
 use Rattle.rules.specs.Complex.{complex}
 use Rattle.records.specs.Seen.{seen}
 use Rattle.records.specs.Stage.{◌does◌}
-use Rattle.places.specs.Layout.{venueOf}
+use Rattle.places.specs.Layout.{venue_of}
 use Rattle.order_messages.proofs.Entering.{last-dense, last-put}
 use borrow.Author.Rules.{rules}
 use Rattle.order_messages.proofs.enter_complex.Statement.{statement}

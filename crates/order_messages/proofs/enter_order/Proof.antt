@@ -5,7 +5,7 @@ use native.Mathlib.Omega.{arith}
 use Rattle.rules.specs.Order.{order}
 use Rattle.records.specs.Seen.{seen}
 use Rattle.records.specs.Stage.{◌does◌}
-use Rattle.places.specs.Layout.{venueOf}
+use Rattle.places.specs.Layout.{venue_of}
 use Rattle.places.proofs.Orderly.{regular-side}
 use Rattle.places.proofs.Orderly.{range-priced, range-display}
 use Rattle.places.proofs.Fully.{range-bounded}
@@ -37,7 +37,7 @@ order-requires c κs =
         display = (range-bounded _ r f).display;
         fully = f;
       };
-      stand = subst AllStanding (sym p.0) (last-kept (venueOf s.args.numbers.now) _ s.requires.stand);
+      stand = subst AllStanding (sym p.0) (last-kept (venue_of s.args.numbers.now) _ s.requires.stand);
     }
 
 returns : tie.Need-returns

@@ -2,7 +2,7 @@
 use mathlib.Core.Path.{refl, sym, ◌∙◌}
 use borrow.Author.Tests.{not-true, not-false}
 use Rattle.rules.specs.Step.{perform}
-use Rattle.places.specs.Layout.{venueOf}
+use Rattle.places.specs.Layout.{venue_of}
 use Rattle.refusals.proofs.Passing.{order_below, order-room}
 use Rattle.answers.proofs.Answering.{refused-steps, done-steps, out-steps, in-steps}
 use Rattle.answers.proofs.Sound.{sound-stands}
@@ -36,7 +36,7 @@ enter-order-requires c κs =
         room = order-room _ s.requires.dense _ r;
         in_range = sym c.before.before.before.before.before.before.before.before.before.before.regular-in-range.ensures ∙ not-false _ c.before.before.before.before.before.before.before.before.before.if1.false;
         fully = s.requires.fully;
-        newest = order_below (venueOf s.args.numbers.now) _ r s.requires.sound.is;
+        newest = order_below (venue_of s.args.numbers.now) _ r s.requires.sound.is;
       };
       stand = sound-stands _ s.requires.sound;
     }

@@ -1,11 +1,11 @@
 -- `orders::cancel` meets its contract.
 use mathlib.Core.Path.{sym, ap, ◌∙◌}
 use Rattle.rules.specs.Effects.{Effect}
-use Rattle.rules.specs.Complex.{restsRegular, restsComplex}
+use Rattle.rules.specs.Complex.{rests_regular, rests_complex}
 use Rattle.rules.proofs.Tests.{or_r}
 use Rattle.records.specs.Seen.{seen}
 use Rattle.records.specs.Stage.{◌does◌}
-use Rattle.places.specs.Layout.{venueOf}
+use Rattle.places.specs.Layout.{venue_of}
 use Rattle.orders.proofs.CancelLaws.{regular-found, regular-used, regular-not, cancel-regular-law, cancel-complex-law}
 use borrow.Author.Rules.{rules}
 use Rattle.orders.proofs.cancel.Statement.{statement}
@@ -19,7 +19,7 @@ cancel-complex-requires c κs =
     record {
       whole = p.whole;
       right = p.dense.right;
-      rests = or_r (restsRegular (venueOf b) s.args.id) (restsComplex (venueOf b) s.args.id)
+      rests = or_r (rests_regular (venue_of b) s.args.id) (rests_complex (venue_of b) s.args.id)
           (regular-not b s.args.id (sym c.before.before.enum_told.given.1 ∙ c.before.before.before.before.regular-place.ensures)) p.rests;
       stand = s.requires.stand;
     }
@@ -40,7 +40,7 @@ cancel-regular-requires c κs =
     record {
       whole = s.requires.order.whole;
       right = s.requires.order.dense.right;
-      inUse = regular-used s.args.numbers.now s.args.id _ (sym c.before.before.before.found.given.1 ∙ c.before.before.before.before.before.regular-place.ensures);
+      in_use = regular-used s.args.numbers.now s.args.id _ (sym c.before.before.before.found.given.1 ∙ c.before.before.before.before.before.regular-place.ensures);
       stand = s.requires.stand;
     }
 

@@ -4,11 +4,11 @@ use mathlib.Core.Bool.{true≢false}
 use Prim.Native.Nat.{ℕ}
 use Rattle.rules.specs.Effects.{◌⟫◌}
 use Rattle.rules.specs.Standing.{settle}
-use Rattle.rules.specs.Complex.{cancelComplex}
+use Rattle.rules.specs.Complex.{cancel_complex}
 use Rattle.records.specs.Seen.{seen}
 use Rattle.records.specs.Stage.{◌does◌}
 use Rattle.records.proofs.StageLaws.{follow}
-use Rattle.places.specs.Layout.{venueOf}
+use Rattle.places.specs.Layout.{venue_of}
 use Rattle.places.proofs.Beside.{counts-on}
 use Rattle.orders.proofs.CancelLaws.{complex-found, complex-used, complex-not}
 use Rattle.orders.proofs.SettlingLaws.{cancel-standing}
@@ -26,7 +26,7 @@ cancel-complex-requires c κs =
     let s = c.before.before.before.before.before.before.before.before.before in
     record {
       whole = s.requires.whole;
-      inUse = complex-used s.args.numbers.now s.args.id _ (sym c.before.before.before.found.given.1 ∙ c.before.before.before.before.before.complex-place.ensures);
+      in_use = complex-used s.args.numbers.now s.args.id _ (sym c.before.before.before.found.given.1 ∙ c.before.before.before.before.before.complex-place.ensures);
     }
 
 settle-standing-requires : tie.Need-settle-standing-requires
@@ -36,19 +36,19 @@ settle-standing-requires c κs =
     record {
       whole = w.auto.0 ∙ s.requires.whole;
       right = w.ensures.1.right s.requires.right;
-      stand = cancel-standing (venueOf s.args.numbers.now) _ _ _ _ _ _ s.requires.stand w.ensures.0;
+      stand = cancel-standing (venue_of s.args.numbers.now) _ _ _ _ _ _ s.requires.stand w.ensures.0;
     }
 
 returns-2 : tie.Need-returns-2
 returns-2 c =
     let s = c.before.before.before.before.before.before.before.before.before.before.before.before.before.before.before.before.before.before.before.before.before in
     let a = s.args in
-    let v = venueOf a.numbers.now in
+    let v = venue_of a.numbers.now in
     let i = c.before.before.before.before.before.before.before.before.before.before.before.before.before.before.before.found.given.0.0 in
     let w = c.before.before.before.before.before.before.before.before.before.before.before.cancel-complex.ensures in
     let x = c.before.before.before.before.settle-standing.ensures in (
-      follow _ (cancelComplex i v) settle _ _ _ _ _ _ w.0 x.0
-          ∙ ap (λ (k : ℕ). seen a.out.now a.at does (cancelComplex k v ⟫ settle))
+      follow _ (cancel_complex i v) settle _ _ _ _ _ _ w.0 x.0
+          ∙ ap (λ (k : ℕ). seen a.out.now a.at does (cancel_complex k v ⟫ settle))
           (sym (complex-found a.numbers.now a.id _ (sym c.before.before.before.before.before.before.before.before.before.before.before.before.before.before.before.found.given.1 ∙ c.before.before.before.before.before.before.before.before.before.before.before.before.before.before.before.before.before.complex-place.ensures)).1),
       counts-on _ _ _ w.1 x.1,
     )

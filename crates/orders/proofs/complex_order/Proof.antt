@@ -2,8 +2,8 @@
 use mathlib.Core.Path.{sym, ap, subst, ◌∙◌}
 use Prim.Native.Nat.{ℕ}
 use native.Mathlib.Omega.{arith}
-use Rattle.rules.specs.Trading.{putComplex}
-use Rattle.places.specs.Layout.{venueOf}
+use Rattle.rules.specs.Trading.{put_complex}
+use Rattle.places.specs.Layout.{venue_of}
 use Rattle.place_writes.proofs.Closed.{dense-complex}
 use Rattle.places.proofs.Beside.{counts-on}
 use Rattle.orders.proofs.OrderLaws.{complex-law, counts-more}
@@ -20,7 +20,7 @@ work-requires c κs =
     record {
       whole = a.auto.0 ∙ s.requires.order.whole;
       right = a.ensures.1.right s.requires.order.dense.right;
-      inUse = omega (arith, a.ensures.1.complexes, c.before.before.before.before.before.before.complexes-used.ensures.0);
+      in_use = omega (arith, a.ensures.1.complexes, c.before.before.before.before.before.before.complexes-used.ensures.0);
     }
 
 settle-written-requires : tie.Need-settle-written-requires
@@ -51,7 +51,7 @@ returns c =
     let u = c.before.before.before.before.before.before.before.before.before.before.before.before.before.before.before.before.before.before.before.before.before.before.before.before.before.complexes-used in
     let s = c.before.before.before.before.before.before.before.before.before.before.before.before.before.before.before.before.before.before.before.before.before.before.before.before.before.before.before.before.before in (
       complex-law s.args.number s.args.c _ _ _ _ _ _ _ _ _ _ _ _ _ _ (u.ensures.0 ∙ sym (dense-complex s.args.numbers.now s.pre.order.dense))
-          (a.ensures.0 ∙ ap (λ (k : ℕ). putComplex k s.args.c (venueOf s.args.numbers.now)) (sym u.ensures.0)) w.ensures.0 x.ensures.0 g.ensures.0,
+          (a.ensures.0 ∙ ap (λ (k : ℕ). put_complex k s.args.c (venue_of s.args.numbers.now)) (sym u.ensures.0)) w.ensures.0 x.ensures.0 g.ensures.0,
       counts-more _ _ _ _ _ a.ensures.1 (counts-on _ _ _ (counts-on _ _ _ w.ensures.1 x.ensures.1) g.ensures.1),
     )
 

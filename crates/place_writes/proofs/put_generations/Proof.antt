@@ -4,14 +4,14 @@ use Prim.Native.Nat.{◌+◌, ◌-◌, ◌*◌, ◌≤◌}
 use native.Mathlib.Omega.{arith}
 use lib.ListN.{length}
 use Rattle.places.specs.Layout.{size}
-use Rattle.places.specs.Offsets.{generationMessagesAt}
+use Rattle.places.specs.Offsets.{generation_messages_at}
 use Rattle.place_writes.proofs.GenerationsPut.{Written, written-first, list_from, put_next, put-generations}
 use borrow.Author.Rules.{rules}
 use Rattle.place_writes.proofs.put_generations.Statement.{statement}
 use Rattle.place_writes.proofs.put_generations.Tie as tie
 
 abbrev invariant-loop : tie.invariant-loop
-invariant-loop b₀ s messages k₀ b k = (k ≤ 20) × (length b ≡ size) × Written (list_from (20 * s + generationMessagesAt) messages) (20 * s + generationMessagesAt) (20 * s + k + generationMessagesAt) b₀ b
+invariant-loop b₀ s messages k₀ b k = (k ≤ 20) × (length b ≡ size) × Written (list_from (20 * s + generation_messages_at) messages) (20 * s + generation_messages_at) (20 * s + k + generation_messages_at) b₀ b
 
 abbrev decreases-loop : tie.decreases-loop
 decreases-loop b₀ s messages k₀ b k = 20 - k

@@ -6,13 +6,13 @@ use native.Mathlib.Omega.{arith}
 use Rattle.place_writes.proofs.Stores.{put_last}
 use borrow.Author.Rules.{rules}
 use Rattle.place_writes.proofs.put_last.Statement.{statement}
-use Rattle.places.specs.Offsets.{lastIdAt}
+use Rattle.places.specs.Offsets.{last_id_at}
 use Rattle.place_writes.proofs.put_last.Tie as tie
 
 returns : tie.Need-returns
 returns c = (
   put_last c.args.numbers.now c.args.id c.requires,
-  counts-kept (stored c.args.numbers.now lastIdAt c.args.id) (omega arith) (omega arith) (inl (omega arith)),
+  counts-kept (stored c.args.numbers.now last_id_at c.args.id) (omega arith) (omega arith) (inl (omega arith)),
 )
 
 pub put-last-spec : {M : Type 1} → statement M

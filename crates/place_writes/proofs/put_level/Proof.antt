@@ -6,7 +6,7 @@ use lib.ListN.{length-set}
 use Rattle.place_writes.proofs.Stores.{put-level}
 use borrow.Author.Rules.{rules}
 use Rattle.place_writes.proofs.put_level.Statement.{statement}
-use Rattle.places.specs.Offsets.{levelPriceAt, levelLowAt, levelHighAt}
+use Rattle.places.specs.Offsets.{level_price_at, level_low_at, level_high_at}
 use Rattle.place_writes.proofs.put_level.Tie as tie
 
 slice-write-numbers-2 : tie.Need-slice-write-numbers-2
@@ -18,8 +18,8 @@ slice-write-numbers-3 c = simp length-set (omega arith)
 returns : tie.Need-returns
 returns c = let s = c.before.before in
     let n = s.args.n in
-    let p1 : 3 * n + levelLowAt ≡ suc (3 * n + levelPriceAt) = omega arith in
-    let p2 : 3 * n + levelHighAt ≡ suc (suc (3 * n + levelPriceAt)) = omega arith in
+    let p1 : 3 * n + level_low_at ≡ suc (3 * n + level_price_at) = omega arith in
+    let p2 : 3 * n + level_high_at ≡ suc (suc (3 * n + level_price_at)) = omega arith in
     rw (p1, p2) (put-level s.args.numbers.now n s.args.l s.requires.whole s.requires.place)
 
 pub put-level-spec : {M : Type 1} → statement M

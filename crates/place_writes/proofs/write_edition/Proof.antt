@@ -3,8 +3,8 @@ use mathlib.Core.Path.{◌≡◌, refl}
 use Prim.Native.Nat.{suc, ◌+◌, ◌*◌}
 use native.Mathlib.Omega.{arith}
 use lib.ListN.{length-set}
-use Rattle.places.specs.Layout.{editionRow}
-use Rattle.places.specs.Offsets.{editionNumberAt, editionMessageAt, editionFigureAt, editionValueAt}
+use Rattle.places.specs.Layout.{edition_row}
+use Rattle.places.specs.Offsets.{edition_number_at, edition_message_at, edition_figure_at, edition_value_at}
 use borrow.Author.Rules.{rules}
 use Rattle.place_writes.proofs.write_edition.Statement.{statement}
 use Rattle.place_writes.proofs.write_edition.Tie as tie
@@ -19,11 +19,11 @@ slice-write-numbers-4 : tie.Need-slice-write-numbers-4
 slice-write-numbers-4 c = simp length-set (omega arith)
 
 returns : tie.Need-returns
-unfolding editionRow
+unfolding edition_row
 returns c = let i = c.before.before.args.i in
-    let p1 : 4 * i + editionMessageAt ≡ suc (4 * i + editionNumberAt) = omega arith in
-    let p2 : 4 * i + editionFigureAt ≡ suc (suc (4 * i + editionNumberAt)) = omega arith in
-    let p3 : 4 * i + editionValueAt ≡ suc (suc (suc (4 * i + editionNumberAt))) = omega arith in (
+    let p1 : 4 * i + edition_message_at ≡ suc (4 * i + edition_number_at) = omega arith in
+    let p2 : 4 * i + edition_figure_at ≡ suc (suc (4 * i + edition_number_at)) = omega arith in
+    let p3 : 4 * i + edition_value_at ≡ suc (suc (suc (4 * i + edition_number_at))) = omega arith in (
       rw (p1, p2, p3) refl,
       c.struct-known2.given.1.1.0.fits,
       c.struct-known2.given.1.1.1.0.fits,

@@ -1,6 +1,6 @@
 -- `place_writes::write_regular` meets its contract.
-use Rattle.places.specs.Layout.{regularRow, reserveRow}
-use Rattle.places.specs.Offsets.{regularReserveAt, regularDisplayAt}
+use Rattle.places.specs.Layout.{regular_row, reserve_row}
+use Rattle.places.specs.Offsets.{regular_reserve_at, regular_display_at}
 use lib.ListN.{length-set}
 use native.Mathlib.Omega.{arith}
 use Prim.Native.Nat.{suc, ◌+◌, ◌*◌}
@@ -28,12 +28,12 @@ same_length : tie.Need-same-length
 same_length c = simp length-set
 
 returns : tie.Need-returns
-unfolding regularRow reserveRow
+unfolding regular_row reserve_row
 returns c = let i = c.before.before.args.i in
     let p1 : 4 * i + 1 ≡ suc (4 * i) = omega arith in
     let p2 : 4 * i + 2 ≡ suc (suc (4 * i)) = omega arith in
     let p3 : 4 * i + 3 ≡ suc (suc (suc (4 * i))) = omega arith in
-    let p4 : 2 * i + regularDisplayAt ≡ suc (2 * i + regularReserveAt) = omega arith in
+    let p4 : 2 * i + regular_display_at ≡ suc (2 * i + regular_reserve_at) = omega arith in
     rw (p1, p2, p3, p4, c.place-number.ensures) refl
 
 pub write-regular-spec : {M : Type 1} → statement M

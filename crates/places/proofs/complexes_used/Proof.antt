@@ -2,13 +2,13 @@
 use native.Mathlib.Omega.{arith}
 use Prim.Native.Nat.{ℕ, min}
 use mathlib.Core.Path.{ap, ◌∙◌}
-use Rattle.places.specs.Layout.{complexesUsed}
+use Rattle.places.specs.Layout.{complexes_used}
 use borrow.Author.Rules.{rules}
 use Rattle.places.proofs.complexes_used.Statement.{statement}
 use Rattle.places.proofs.complexes_used.Tie as tie
 
 returns : tie.Need-returns
-unfolding complexesUsed
+unfolding complexes_used
 returns c = (c.at_most.ensures ∙ ap (λ (x : ℕ). min x 32) c.before.wide.ensures, omega (arith, c.at_most.ensures))
 
 pub complexes-used-spec : {M : Type 1} → statement M

@@ -4,9 +4,9 @@ use Prim.Native.Nat.{ℕ, ◌+◌, ◌*◌, ◌/◌, ◌%◌}
 use native.Mathlib.Nat.{div-div-eq-div-mul}
 use native.Mathlib.Omega.{arith}
 use lib.ListN.{get_or}
-use Rattle.rules.specs.Words.{placeOf}
-use Rattle.places.specs.Offsets.{complexLegsAt, complexRatiosAt}
-use Rattle.places.specs.Layout.{complexIn, legsKey, ratiosNumber, crossKey}
+use Rattle.rules.specs.Words.{place_of}
+use Rattle.places.specs.Offsets.{complex_legs_at, complex_ratios_at}
+use Rattle.places.specs.Layout.{complex_in, legs_key, ratios_number, cross_key}
 use borrow.Author.Rules.{rules}
 use Rattle.places.proofs.cross_key_at.Statement.{statement}
 use Rattle.places.proofs.cross_key_at.Tie as tie
@@ -19,11 +19,11 @@ legs : (x : ℕ) → x % 256 ≡ 16 * (2 * (x % 256 / 32) + x / 16 % 2) + (2 * (
 legs x = omega arith
 
 returns : tie.Need-returns
-unfolding crossKey ratiosNumber legsKey complexIn placeOf
+unfolding cross_key ratios_number legs_key complex_in place_of
 returns c =
     let a = c.before.before.before.before.before.args in
-    let r = digits (get_or a.numbers.now (6 * a.i + complexRatiosAt) 0) in
-    let l = legs (get_or a.numbers.now (6 * a.i + complexLegsAt) 0) in
+    let r = digits (get_or a.numbers.now (6 * a.i + complex_ratios_at) 0) in
+    let l = legs (get_or a.numbers.now (6 * a.i + complex_legs_at) 0) in
     omega arith
 
 pub cross-key-at-spec : {M : Type 1} → statement M

@@ -1,12 +1,12 @@
 -- `places::edition_at` meets its contract.
 use mathlib.Core.Path.{refl}
-use Rattle.places.specs.Layout.{editionIn}
+use Rattle.places.specs.Layout.{edition_in}
 use borrow.Author.Rules.{rules}
 use Rattle.places.proofs.edition_at.Statement.{statement}
 use Rattle.places.proofs.edition_at.Tie as tie
 
 returns : tie.Need-returns
-unfolding editionIn
+unfolding edition_in
 returns c = refl
 
 pub edition-at-spec : {M : Type 1} → statement M

@@ -1,12 +1,12 @@
 -- `places::listed_at` meets its contract.
 use mathlib.Core.Path.{refl}
-use Rattle.places.specs.Layout.{listedIn}
+use Rattle.places.specs.Layout.{listed_in}
 use borrow.Author.Rules.{rules}
 use Rattle.places.proofs.listed_at.Statement.{statement}
 use Rattle.places.proofs.listed_at.Tie as tie
 
 returns : tie.Need-returns
-unfolding listedIn
+unfolding listed_in
 returns c = refl
 
 pub listed-at-spec : {M : Type 1} → statement M

@@ -1,12 +1,12 @@
 -- `places::none_shows_again` meets its contract.
 use mathlib.Core.Path.{refl}
-use Rattle.places.specs.Layout.{noneShowsAgain}
+use Rattle.places.specs.Layout.{none_shows_again}
 use borrow.Author.Rules.{rules}
 use Rattle.places.proofs.none_shows_again.Statement.{statement}
 use Rattle.places.proofs.none_shows_again.Tie as tie
 
 returns : tie.Need-returns
-unfolding noneShowsAgain
+unfolding none_shows_again
 returns c = refl
 
 pub none-shows-again-spec : {M : Type 1} → statement M

@@ -1,7 +1,7 @@
 -- `prices::in_band` meets its contract.
 use Rattle.levels.proofs.Sides.{first-best, second-best}
 use Rattle.prices.proofs.Prices.{band-none1, band-none2, band-near}
-use Rattle.places.specs.Layout.{venueOf}
+use Rattle.places.specs.Layout.{venue_of}
 use Rattle.rules.proofs.Machine.{back}
 use borrow.Author.Rules.{rules}
 use Rattle.prices.proofs.in_band.Statement.{statement}
@@ -11,7 +11,7 @@ market-best-requires : tie.Need-market-best-requires
 market-best-requires c κs =
     let a = c.before.before.before.args in record {
       whole = c.before.before.before.requires.whole;
-      best = first-best (venueOf a.numbers.now) a.taken a.c c.before.before.before.requires.taken _
+      best = first-best (venue_of a.numbers.now) a.taken a.c c.before.before.before.requires.taken _
           c.opposite-of.ensures;
       series = c.before.before.before.requires.legs.first;
     }
@@ -23,7 +23,7 @@ market-best-requires-2 : tie.Need-market-best-requires-2
 market-best-requires-2 c κs =
     let a = c.before.before.before.before.before.before.before.args in record {
       whole = c.before.before.before.before.before.before.before.requires.whole;
-      best = second-best (venueOf a.numbers.now) a.taken a.c
+      best = second-best (venue_of a.numbers.now) a.taken a.c
           c.before.before.before.before.before.before.before.requires.taken _ c.opposite-of2.ensures;
       series = c.before.before.before.before.before.before.before.requires.legs.second;
     }

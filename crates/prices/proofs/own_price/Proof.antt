@@ -1,5 +1,5 @@
 -- `prices::own_price` meets its contract.
-use Rattle.rules.specs.Words.{placeOf}
+use Rattle.rules.specs.Words.{place_of}
 use Rattle.places.proofs.Parts.{legging-read}
 use Rattle.prices.proofs.Prices.{own-free, own_held}
 use borrow.Author.Rules.{rules}
@@ -7,7 +7,7 @@ use Rattle.prices.proofs.own_price.Statement.{statement}
 use Rattle.prices.proofs.own_price.Tie as tie
 
 legging-at-requires : tie.Need-legging-at-requires
-unfolding placeOf
+unfolding place_of
 legging-at-requires c κs = search rules
 
 returns : tie.Need-returns

@@ -1,7 +1,7 @@
 -- `prices::own_size` meets its contract.
 use mathlib.Core.Path.{sym, ◌∙◌}
 use native.Mathlib.Omega.{arith}
-use Rattle.rules.specs.Words.{placeOf}
+use Rattle.rules.specs.Words.{place_of}
 use Rattle.levels.proofs.LevelsKept.{level-most}
 use Rattle.places.proofs.Parts.{legging-read}
 use Rattle.prices.proofs.Prices.{size-free, size_same, size-better, size-worse}
@@ -10,7 +10,7 @@ use Rattle.prices.proofs.own_size.Statement.{statement}
 use Rattle.prices.proofs.own_size.Tie as tie
 
 legging-at-requires : tie.Need-legging-at-requires
-unfolding placeOf
+unfolding place_of
 legging-at-requires c κs = search rules
 
 returns : tie.Need-returns

@@ -1,5 +1,5 @@
 use Rattle.rules.specs.Bytes.{framed, bytes}
-use Rattle.rules.specs.Records.{removed, causeNumber, encode}
+use Rattle.rules.specs.Records.{removed, cause_number, encode}
 use Rattle.rules.proofs.Reading.{byte, cause-small}
 use Rattle.records.proofs.SeenLaws.{emitted}
 use borrow.Author.Rules.{rules}
@@ -16,7 +16,7 @@ returns c =
       c.before.before.before.before.before.before.bytes4.ensures,
       byte s.args.series s.ranges.series.fits,
       byte s.args.side s.ranges.side.fits,
-      byte (causeNumber s.args.cause) (cause-small s.args.cause),
+      byte (cause_number s.args.cause) (cause-small s.args.cause),
     ))
 
 pub emit-removed-spec : {M : Type 1} → statement M

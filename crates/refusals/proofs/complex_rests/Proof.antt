@@ -1,7 +1,7 @@
 -- `refusals::complex_rests` meets its contract.
 use Rattle.refusals.proofs.RefusalFound.{complex-told}
 use mathlib.Core.Path.{◌≡◌, refl, sym, ap, ◌∙◌}
-use Rattle.places.specs.Layout.{venueOf}
+use Rattle.places.specs.Layout.{venue_of}
 use borrow.Author.Rules.{rules}
 use Rattle.refusals.proofs.complex_rests.Statement.{statement}
 use Rattle.refusals.proofs.complex_rests.Tie as tie

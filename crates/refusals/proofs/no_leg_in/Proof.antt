@@ -8,8 +8,8 @@ use borrow.Author.Count.{below_more}
 use borrow.Author.Rules.{rules}
 use Rattle.rules.specs.declared.Complex.{Complex}
 use Rattle.rules.specs.Base.{held}
-use Rattle.rules.specs.Words.{noComplex}
-use Rattle.places.specs.Layout.{complexesUsed, complexIn, venueOf}
+use Rattle.rules.specs.Words.{no_complex}
+use Rattle.places.specs.Layout.{complexes_used, complex_in, venue_of}
 use Rattle.places.proofs.Parts.{complexes-few}
 use Rattle.refusals.proofs.EditionsLaws.{all_pass, one-fails}
 use Rattle.refusals.proofs.no_leg_in.Statement.{statement}
@@ -19,10 +19,10 @@ abbrev elsewhere : ℕ → Complex → Bool
 elsewhere s x = not (held x.quantity && (eqb x.series1 s || eqb x.series2 s))
 
 abbrev invariant-loop : tie.invariant-loop
-invariant-loop b s n i₀ i = (i ≤ complexesUsed b) × ((j : ℕ) → j < i → elsewhere s (complexIn b j) ≡ true)
+invariant-loop b s n i₀ i = (i ≤ complexes_used b) × ((j : ℕ) → j < i → elsewhere s (complex_in b j) ≡ true)
 
 abbrev decreases-loop : tie.decreases-loop
-decreases-loop b s n i₀ i = complexesUsed b - i
+decreases-loop b s n i₀ i = complexes_used b - i
 
 loop-holds : tie.Need-loop-init invariant-loop decreases-loop
 loop-holds c = (search rules, λ j q. absurd (omega arith))
@@ -31,9 +31,9 @@ complex-at-requires : tie.Need-complex-at-requires invariant-loop decreases-loop
 complex-at-requires c κs = let w = complexes-few c.before.before.before.before.args.numbers.now in search rules
 
 returns : tie.Need-returns invariant-loop decreases-loop
-unfolding venueOf
+unfolding venue_of
 returns c = let b = c.before.before.before.before.before.before.before.args.numbers.now in
-    let s = c.before.before.before.before.before.before.before.args.s in one-fails (elsewhere s) noComplex (complexIn b) (complexesUsed b) 32
+    let s = c.before.before.before.before.before.before.before.args.s in one-fails (elsewhere s) no_complex (complex_in b) (complexes_used b) 32
     (complexes-few b) c.before.before.before.before.loop.i (omega arith)
     (ap (elsewhere s) (sym c.before.before.complex-at.ensures) ∙ ap not (sym c.before.has-leg-in.ensures ∙ c.if1.true))
 
@@ -44,15 +44,15 @@ loop-again : tie.Need-loop-preserved invariant-loop decreases-loop
 loop-again c = let b = c.before.before.before.before.before.before.before.args.numbers.now in
     let s = c.before.before.before.before.before.before.before.args.s in (
       omega arith,
-      below_more (λ j. elsewhere s (complexIn b j) ≡ true) c.before.before.before.before.loop.i
+      below_more (λ j. elsewhere s (complex_in b j) ≡ true) c.before.before.before.before.loop.i
           c.before.before.before.before.loop.invariant.1
           (ap (elsewhere s) (sym c.before.before.complex-at.ensures) ∙ ap not (sym c.before.has-leg-in.ensures ∙ c.if1.false)),
     )
 
 returns-2 : tie.Need-returns-2 invariant-loop decreases-loop
-unfolding venueOf
+unfolding venue_of
 returns-2 c = let b = c.before.before.before.before.args.numbers.now in let s = c.before.before.before.before.args.s in
-    all_pass (elsewhere s) noComplex (complexIn b) (complexesUsed b) 32 (complexes-few b) (λ _. refl) (λ j q. c.before.loop.invariant.1 j (omega arith))
+    all_pass (elsewhere s) no_complex (complex_in b) (complexes_used b) 32 (complexes-few b) (λ _. refl) (λ j q. c.before.loop.invariant.1 j (omega arith))
 
 pub no-leg-in-spec : {M : Type 1} → statement M
 no-leg-in-spec =

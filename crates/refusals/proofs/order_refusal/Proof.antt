@@ -6,8 +6,8 @@ use lib.Dec.{leb, eqb}
 use borrow.Author.Tests.{le-leb, lt-leb, eq-eqb, ne_eqb}
 use Rattle.rules.specs.declared.Message.TheVariants.{Order}
 use Rattle.rules.specs.Words.{closed}
-use Rattle.rules.specs.Refusals.{offIncrement, editionTooLow, inUse, noEditionLeft, idTooLow, onClosed, full, unknown}
-use Rattle.places.specs.Layout.{venueOf}
+use Rattle.rules.specs.Refusals.{off_increment, edition_too_low, in_use, no_edition_left, id_too_low, on_closed, full, unknown}
+use Rattle.places.specs.Layout.{venue_of}
 use Rattle.places.proofs.Orderly.{regular-side}
 use Rattle.place_writes.proofs.Closed.{dense-regular}
 use Rattle.refusals.proofs.RefusalFound.{refuses-off, refuses-low, refuses-closed, refuses-full, accepts}
@@ -16,7 +16,7 @@ use Rattle.refusals.proofs.order_refusal.Statement.{statement}
 use Rattle.refusals.proofs.order_refusal.Tie as tie
 
 -- the price is on the increment
-on-increment : (c : tie.Else1) → offIncrement (venueOf c.before.before.before.args.numbers.now) (Order c.before.before.before.args.o) ≡ false
+on-increment : (c : tie.Else1) → off_increment (venue_of c.before.before.before.args.numbers.now) (Order c.before.before.before.args.o) ≡ false
 on-increment c = sym c.before.off-increment.ensures ∙ c.if1.false
 
 off-increment-requires : tie.Need-off-increment-requires
@@ -24,11 +24,11 @@ off-increment-requires c κs = let s = c.before in
     record { whole = s.requires.whole; series = (regular-side s.args.o s.requires.in_range).series; figures = s.requires.dense.right.marked.figures }
 
 returns : tie.Need-returns
-returns c = refuses-off (venueOf c.before.before.before.args.numbers.now) (Order c.before.before.before.args.o) (sym c.before.off-increment.ensures ∙ c.if1.true)
+returns c = refuses-off (venue_of c.before.before.before.args.numbers.now) (Order c.before.before.before.args.o) (sym c.before.off-increment.ensures ∙ c.if1.true)
 
 returns-2 : tie.Need-returns-2
-unfolding editionTooLow inUse noEditionLeft idTooLow
-returns-2 c = let start = c.before.before.before.before.before.before in refuses-low (venueOf start.args.numbers.now) (Order start.args.o)
+unfolding edition_too_low in_use no_edition_left id_too_low
+returns-2 c = let start = c.before.before.before.before.before.before in refuses-low (venue_of start.args.numbers.now) (Order start.args.o)
     (on-increment c.before.before.before) refl refl refl
     (ap (leb start.args.o.id) (sym c.before.before.last-id.ensures) ∙ le-leb _ _ c.if2.true)
 
@@ -37,16 +37,16 @@ status-of-requires c κs = let s = c.before.before.before.before.before.before i
     record { whole = s.requires.whole; series = (regular-side s.args.o s.requires.in_range).series }
 
 returns-3 : tie.Need-returns-3
-unfolding editionTooLow inUse noEditionLeft idTooLow onClosed
-returns-3 c = let start = c.before.before.before.before.before.before.before.before in refuses-closed (venueOf start.args.numbers.now)
+unfolding edition_too_low in_use no_edition_left id_too_low on_closed
+returns-3 c = let start = c.before.before.before.before.before.before.before.before in refuses-closed (venue_of start.args.numbers.now)
     (Order start.args.o) (on-increment c.before.before.before.before.before) refl refl refl
     (ap (leb start.args.o.id) (sym c.before.before.before.before.last-id.ensures) ∙ lt-leb _ _ c.before.before.if2.false)
     (ap (λ (x : ℕ). eqb x closed) (sym c.before.status-of.ensures) ∙ eq-eqb _ _ c.if3.true)
 
 returns-4 : tie.Need-returns-4
-unfolding editionTooLow inUse noEditionLeft idTooLow onClosed full
+unfolding edition_too_low in_use no_edition_left id_too_low on_closed full
 returns-4 c = let start = c.before.before.before.before.before.before.before.before.before.before in
-    let s = c.before.before.before.before.before.before.before.before.before.before in refuses-full (venueOf start.args.numbers.now)
+    let s = c.before.before.before.before.before.before.before.before.before.before in refuses-full (venue_of start.args.numbers.now)
     (Order start.args.o) (on-increment c.before.before.before.before.before.before.before) refl refl refl
     (ap (leb start.args.o.id) (sym c.before.before.before.before.before.before.last-id.ensures) ∙ lt-leb _ _
     c.before.before.before.before.if2.false)
@@ -54,10 +54,10 @@ returns-4 c = let start = c.before.before.before.before.before.before.before.bef
     (ap (leb 128) (dense-regular s.args.numbers.now s.requires.dense ∙ sym c.before.regulars-used.ensures.0) ∙ le-leb _ _ c.if4.true)
 
 returns-5 : tie.Need-returns-5
-unfolding editionTooLow inUse noEditionLeft idTooLow onClosed full unknown
+unfolding edition_too_low in_use no_edition_left id_too_low on_closed full unknown
 returns-5 c = let start = c.before.before.before.before.before.before.before.before.before.before in
     let s = c.before.before.before.before.before.before.before.before.before.before in
-    accepts (venueOf start.args.numbers.now) (Order start.args.o) (on-increment c.before.before.before.before.before.before.before) refl
+    accepts (venue_of start.args.numbers.now) (Order start.args.o) (on-increment c.before.before.before.before.before.before.before) refl
     refl refl (ap (leb start.args.o.id) (sym c.before.before.before.before.before.before.last-id.ensures) ∙ lt-leb _ _
     c.before.before.before.before.if2.false)
     (ap (λ (x : ℕ). eqb x closed) (sym c.before.before.before.status-of.ensures) ∙ ne_eqb _ _ c.before.before.if3.false)

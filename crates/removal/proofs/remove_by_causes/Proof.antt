@@ -4,12 +4,12 @@ use mathlib.Core.Path.{sym, ◌∙◌}
 use Prim.Native.Nat.{◌<◌}
 use native.Mathlib.Omega.{arith}
 use Rattle.removal.proofs.RemovalLaws.{Removing, removing-start, removing-turn, removing-past, removing-over, removing-room, Left, left-start, left-few, left-on, left_here, left_over}
-use Rattle.removal.specs.Causes.{verdictIn}
+use Rattle.removal.specs.Causes.{verdict_in}
 use Rattle.removal.proofs.remove_by_causes.Statement.{statement}
 use Rattle.removal.proofs.remove_by_causes.Tie as tie
 
 abbrev invariant-loop : tie.invariant-loop
-invariant-loop b₀ causes out₀ at pos₀ n₀ rest₀ b out pos n rest = Removing (verdictIn causes) b₀ out₀ at b out pos n × Left causes rest n
+invariant-loop b₀ causes out₀ at pos₀ n₀ rest₀ b out pos n rest = Removing (verdict_in causes) b₀ out₀ at b out pos n × Left causes rest n
 
 abbrev decreases-loop : tie.decreases-loop
 decreases-loop b₀ causes out₀ at pos₀ n₀ rest₀ b out pos n rest = rest

@@ -3,13 +3,13 @@ use borrow.Author.Rules.{rules}
 use mathlib.Core.Path.{sym, ◌∙◌}
 use Prim.Native.Nat.{◌-◌}
 use lib.Dec.{eqb}
-use Rattle.rules.specs.Removal.{failIf, removeOf}
+use Rattle.rules.specs.Removal.{fail_if, remove_of}
 use Rattle.removal.proofs.RemovalLaws.{Removing, removing-start, removing-turn, removing-past, removing-end, removing-room, by-parent, not-parent}
 use Rattle.removal.proofs.remove_of.Statement.{statement}
 use Rattle.removal.proofs.remove_of.Tie as tie
 
 abbrev invariant-loop : tie.invariant-loop
-invariant-loop b₀ parent cause out₀ at pos₀ n₀ b out pos n = Removing (λ k l. failIf (eqb l.parent parent) cause) b₀ out₀ at b out pos n
+invariant-loop b₀ parent cause out₀ at pos₀ n₀ b out pos n = Removing (λ k l. fail_if (eqb l.parent parent) cause) b₀ out₀ at b out pos n
 
 abbrev decreases-loop : tie.decreases-loop
 decreases-loop b₀ parent cause out₀ at pos₀ n₀ b out pos n = 16 - n
@@ -41,7 +41,7 @@ same-length-2 : tie.Need-same-length-2 invariant-loop decreases-loop
 same-length-2 c = removing-room _ c.before.loop.invariant
 
 returns : tie.Need-returns invariant-loop decreases-loop
-unfolding removeOf
+unfolding remove_of
 returns c = removing-end _ c.before.loop.invariant c.loop-test.false
 
 pub remove-of-spec : {M : Type 1} → statement M

@@ -4,7 +4,7 @@ use Rattle.rules.specs.Effects.{Effect, report}
 use Rattle.records.specs.Seen.{seen}
 use Rattle.records.specs.Stage.{◌does◌}
 use Rattle.records.proofs.StageLaws.{does-nothing, does-report}
-use Rattle.places.specs.Layout.{venueOf}
+use Rattle.places.specs.Layout.{venue_of}
 use Rattle.places.proofs.Parts.{legging-at}
 use Rattle.removal.proofs.RemovalLaws.{remove-place-free, remove-place-held}
 use borrow.Author.Rules.{rules}
@@ -16,9 +16,9 @@ returns c =
     let p2 = c.before.before in
     let s = p2.before.before.before.before in
     let a = s.args in (
-      does-nothing (venueOf a.numbers.now) a.out.now a.at
+      does-nothing (venue_of a.numbers.now) a.out.now a.at
           ∙ ap (λ (e : Effect). seen a.out.now a.at does e)
-          (remove-place-free a.n (venueOf a.numbers.now) _ (legging-at a.numbers.now a.n s.requires.place ∙ sym p2.legging-at.ensures) a.cause c.if1.true),
+          (remove-place-free a.n (venue_of a.numbers.now) _ (legging-at a.numbers.now a.n s.requires.place ∙ sym p2.legging-at.ensures) a.cause c.if1.true),
       record { regulars = refl; complexes = refl; right = λ h. h },
     )
 
@@ -33,7 +33,7 @@ returns-2 c =
       does-report _ _ _ _ _ _ p2.emit-removed.ensures
           ∙ ap (λ (e : Effect). seen a.out.now a.at does e)
           (ap (report _) p6.put-legging.ensures.0
-          ∙ remove-place-held a.n (venueOf a.numbers.now) _ (legging-at a.numbers.now a.n s.requires.place ∙ sym p10.legging-at.ensures) a.cause p8.if1.false),
+          ∙ remove-place-held a.n (venue_of a.numbers.now) _ (legging-at a.numbers.now a.n s.requires.place ∙ sym p10.legging-at.ensures) a.cause p8.if1.false),
       p6.put-legging.ensures.1,
     )
 

@@ -1,48 +1,48 @@
 -- `removal::verdict_by` meets its contract.
 use mathlib.Core.Path.{sym, ap}
 use borrow.Author.Tests.{ne_eqb}
-use Rattle.removal.specs.Causes.{verdictBy}
+use Rattle.removal.specs.Causes.{verdict_by}
 use Rattle.removal.proofs.verdict_by.Statement.{statement}
 use Rattle.removal.proofs.verdict_by.Tie as tie
 
 returns : tie.Need-returns
-unfolding verdictBy
-returns c = sym (ap verdictBy c.if1.true)
+unfolding verdict_by
+returns c = sym (ap verdict_by c.if1.true)
 
 returns-2 : tie.Need-returns-2
-unfolding verdictBy
-returns-2 c = sym (ap verdictBy c.if2.true)
+unfolding verdict_by
+returns-2 c = sym (ap verdict_by c.if2.true)
 
 returns-3 : tie.Need-returns-3
-unfolding verdictBy
-returns-3 c = sym (ap verdictBy c.if3.true)
+unfolding verdict_by
+returns-3 c = sym (ap verdict_by c.if3.true)
 
 returns-4 : tie.Need-returns-4
-unfolding verdictBy
-returns-4 c = sym (ap verdictBy c.if4.true)
+unfolding verdict_by
+returns-4 c = sym (ap verdict_by c.if4.true)
 
 returns-5 : tie.Need-returns-5
-unfolding verdictBy
-returns-5 c = sym (ap verdictBy c.if5.true)
+unfolding verdict_by
+returns-5 c = sym (ap verdict_by c.if5.true)
 
 returns-6 : tie.Need-returns-6
-unfolding verdictBy
-returns-6 c = sym (ap verdictBy c.if6.true)
+unfolding verdict_by
+returns-6 c = sym (ap verdict_by c.if6.true)
 
 returns-7 : tie.Need-returns-7
-unfolding verdictBy
-returns-7 c = sym (ap verdictBy c.if7.true)
+unfolding verdict_by
+returns-7 c = sym (ap verdict_by c.if7.true)
 
 returns-8 : tie.Need-returns-8
-unfolding verdictBy
-returns-8 c = sym (ap verdictBy c.if8.true)
+unfolding verdict_by
+returns-8 c = sym (ap verdict_by c.if8.true)
 
 returns-9 : tie.Need-returns-9
-unfolding verdictBy
-returns-9 c = sym (ap verdictBy c.if9.true)
+unfolding verdict_by
+returns-9 c = sym (ap verdict_by c.if9.true)
 
 returns-10 : tie.Need-returns-10
-unfolding verdictBy
+unfolding verdict_by
 returns-10 c =
     let p3 = c.before.before.before in
     let p5 = p3.before.before in

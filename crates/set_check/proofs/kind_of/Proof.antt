@@ -1,11 +1,11 @@
 -- `set_check::kind_of` meets its contract.
-use Rattle.rules.specs.Bytes.{kindField}
+use Rattle.rules.specs.Bytes.{kind_field}
 use borrow.Author.Rules.{rules}
 use Rattle.set_check.proofs.kind_of.Statement.{statement}
 use Rattle.set_check.proofs.kind_of.Tie as tie
 
 returns : tie.Need-returns
-unfolding kindField
+unfolding kind_field
 returns c = c.u16-at.ensures
 
 pub kind-of-spec : {M : Type 1} → statement M

@@ -11,30 +11,30 @@ use mathlib.Core.Path.{◌≡◌, refl, sym, ap, ◌∙◌}
 use mathlib.Core.Bool.{true}
 use Prim.Native.Nat.{◌≤◌, ◌-◌}
 use lib.ListN.{length, drop}
-use Rattle.sets.specs.Set.{heldIn}
-use Rattle.set_check.specs.Order.{noneRead, few, lookedAt}
+use Rattle.sets.specs.Set.{held_in}
+use Rattle.set_check.specs.Order.{none_read, few, looked_at}
 use borrow.Author.Rules.{rules}
 use Rattle.set_check.proofs.look.Statement.{statement}
 use Rattle.set_check.proofs.look.Tie as tie
 
 abbrev invariant-loop : tie.invariant-loop
-invariant-loop memory st₀ at₀ st at = (at ≤ length memory) × (few st ≡ true) × (lookedAt st (heldIn (drop at memory)) ≡ lookedAt noneRead (heldIn memory))
+invariant-loop memory st₀ at₀ st at = (at ≤ length memory) × (few st ≡ true) × (looked_at st (held_in (drop at memory)) ≡ looked_at none_read (held_in memory))
 
 abbrev decreases-loop : tie.decreases-loop
 decreases-loop memory st₀ at₀ st at = length memory - at
 
 loop-holds : tie.Need-loop-init invariant-loop decreases-loop
-unfolding noneRead few
+unfolding none_read few
 loop-holds c = let e = c.none_read.ensures in (omega arith, rw e refl, rw e refl)
 
 returns : tie.Need-returns invariant-loop decreases-loop
-returns c = c.ended.ensures ∙ ap (lookedAt c.before.before.before.before.loop.st)
+returns c = c.ended.ensures ∙ ap (looked_at c.before.before.before.before.loop.st)
     (sym (held-ended _ (sym c.before.before.before.Front-at.ensures ∙ c.before.enum_told.given.1)))
     ∙ c.before.before.before.before.loop.invariant.2
 
 returns-2 : tie.Need-returns-2 invariant-loop decreases-loop
-unfolding lookedAt
-returns-2 c = ap (lookedAt c.before.before.before.loop.st) (sym (held-broken _ (sym c.before.before.Front-at.ensures ∙ c.enum-told2.given.1))) ∙ c.before.before.before.loop.invariant.2
+unfolding looked_at
+returns-2 c = ap (looked_at c.before.before.before.loop.st) (sym (held-broken _ (sym c.before.before.Front-at.ensures ∙ c.enum-told2.given.1))) ∙ c.before.before.before.loop.invariant.2
 
 part-is-next-end : tie.Need-slice-bounds-is-next-end invariant-loop decreases-loop
 part-is-next-end c = let w = in-front _ _ (sym c.before.before.before.Front-at.ensures ∙ c.before.front.given.1) in let x = w.four in
@@ -85,7 +85,7 @@ loop-again c = let w = in-front _ _ (sym c.before.before.before.before.before.be
     let f = sym c.before.are-few.ensures ∙ not-false _ c.if2.false in (
       omega arith,
       f,
-      ap (λ (z : List ℕ). lookedAt c.before.before.passed.result (heldIn z))
+      ap (λ (z : List ℕ). looked_at c.before.before.passed.result (held_in z))
           (sym (drop-drop c.before.before.before.before.before.before.before.before.front.given.0.0
           c.before.before.before.before.before.before.before.before.before.before.before.loop.at
           c.before.before.before.before.before.before.before.before.before.before.before.before.before.before.args.memory.now))

@@ -2,7 +2,7 @@
 use native.Mathlib.Omega.{arith}
 use mathlib.Core.Path.{◌≡◌, refl, sym, ap, ◌∙◌}
 use Rattle.set_check.proofs.OrderLaws.{few-out, onward-made}
-use Rattle.set_check.specs.Order.{oneIf}
+use Rattle.set_check.specs.Order.{one_if}
 use borrow.Author.Rules.{rules}
 use Rattle.set_check.proofs.passed.Statement.{statement}
 use Rattle.set_check.proofs.passed.Tie as tie
@@ -28,13 +28,13 @@ returns c = onward-made _ _ _ _ _ _ _ _ _ _ _ _ _
     c.before.before.before.before.before.before.before.before.before.before.before.before.before.before.before.before.before.is_whole.ensures c.before.before.before.before.before.before.before.before.before.before.before.before.before.before.before.before.part_of.ensures
     c.before.before.before.before.before.before.before.before.before.before.before.before.before.before.before.sort-key.ensures
     c.before.before.before.before.before.before.before.before.before.before.before.before.before.before.told_of.ensures
-    (c.before.before.before.before.before.before.before.before.before.before.before.before.one-if.ensures.0 ∙ ap oneIf
+    (c.before.before.before.before.before.before.before.before.before.before.before.before.one-if.ensures.0 ∙ ap one_if
     c.before.before.before.before.before.before.before.before.before.before.before.before.before.tells-edition.ensures)
-    (c.before.before.before.before.before.before.before.before.before.one-if2.ensures.0 ∙ ap oneIf
+    (c.before.before.before.before.before.before.before.before.before.one-if2.ensures.0 ∙ ap one_if
     c.before.before.before.before.before.before.before.before.before.before.tells-regular.ensures)
-    (c.before.before.before.before.before.before.one-if3.ensures.0 ∙ ap oneIf
+    (c.before.before.before.before.before.before.one-if3.ensures.0 ∙ ap one_if
     c.before.before.before.before.before.before.before.tells-complex.ensures)
-    (c.before.before.before.one-if4.ensures.0 ∙ ap oneIf c.before.before.before.before.tells-legging.ensures)
+    (c.before.before.before.one-if4.ensures.0 ∙ ap one_if c.before.before.before.before.tells-legging.ensures)
     c.before.run-with.ensures c.still_Placed.ensures
 
 pub passed-spec : {M : Type 1} → statement M

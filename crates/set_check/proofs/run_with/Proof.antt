@@ -2,7 +2,7 @@
 use native.Mathlib.Omega.{arith}
 use mathlib.Core.Path.{◌≡◌, refl, sym, ap, ◌∙◌}
 use Rattle.set_check.proofs.OrderLaws.{run-same, run-other, few-out}
-use Rattle.set_check.specs.Order.{oneIf}
+use Rattle.set_check.specs.Order.{one_if}
 use borrow.Author.Rules.{rules}
 use Rattle.set_check.proofs.run_with.Statement.{statement}
 use Rattle.set_check.proofs.run_with.Tie as tie
@@ -12,10 +12,10 @@ add-result c = omega (arith, (few-out _ c.before.before.before.before.before.bef
 
 returns : tie.Need-returns
 returns c = run-same _ _ _ (sym c.before.before.same-series.ensures ∙ c.before.if1.true)
-    (c.before.before.before.one-if.ensures.0 ∙ ap oneIf c.before.before.before.before.tells-generation.ensures)
+    (c.before.before.before.one-if.ensures.0 ∙ ap one_if c.before.before.before.before.tells-generation.ensures)
 
 returns-2 : tie.Need-returns-2
-returns-2 c = run-other _ _ _ (sym c.before.same-series.ensures ∙ c.if1.false) (c.before.before.one-if.ensures.0 ∙ ap oneIf c.before.before.before.tells-generation.ensures)
+returns-2 c = run-other _ _ _ (sym c.before.same-series.ensures ∙ c.if1.false) (c.before.before.one-if.ensures.0 ∙ ap one_if c.before.before.before.tells-generation.ensures)
 
 pub run-with-spec : {M : Type 1} → statement M
 run-with-spec =

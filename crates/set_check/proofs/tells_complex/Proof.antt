@@ -1,17 +1,17 @@
 -- `set_check::tells_complex` meets its contract.
 use native.Mathlib.Omega.{arith}
 use Rattle.set_check.proofs.Fronts.{first-of-two, second-of-two}
-use Rattle.sets.specs.Set.{tellsComplex}
+use Rattle.sets.specs.Set.{tells_complex}
 use borrow.Author.Rules.{rules}
 use Rattle.set_check.proofs.tells_complex.Statement.{statement}
 use Rattle.set_check.proofs.tells_complex.Tie as tie
 
 returns : tie.Need-returns
-unfolding tellsComplex
+unfolding tells_complex
 returns c = first-of-two _ _ _ _ c.before.kind-of.ensures (omega arith)
 
 returns-2 : tie.Need-returns-2
-unfolding tellsComplex
+unfolding tells_complex
 returns-2 c = second-of-two _ _ _ _ c.before.kind-of.ensures (λ e. omega arith)
 
 pub tells-complex-spec : {M : Type 1} → statement M

@@ -2,13 +2,13 @@
 use mathlib.Core.Path.{◌≡◌, refl, sym, ap, ◌∙◌}
 use Prim.Native.Nat.{ℕ}
 use lib.Dec.{eqb}
-use Rattle.sets.specs.Set.{tellsGeneration}
+use Rattle.sets.specs.Set.{tells_generation}
 use borrow.Author.Rules.{rules}
 use Rattle.set_check.proofs.tells_generation.Statement.{statement}
 use Rattle.set_check.proofs.tells_generation.Tie as tie
 
 returns : tie.Need-returns
-unfolding tellsGeneration
+unfolding tells_generation
 returns c = ap (λ (k : ℕ). eqb k 83) c.kind-of.ensures
 
 pub tells-generation-spec : {M : Type 1} → statement M

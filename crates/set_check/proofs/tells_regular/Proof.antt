@@ -1,17 +1,17 @@
 -- `set_check::tells_regular` meets its contract.
 use native.Mathlib.Omega.{arith}
 use Rattle.set_check.proofs.Fronts.{first-of-two, second-of-two}
-use Rattle.sets.specs.Set.{tellsRegular}
+use Rattle.sets.specs.Set.{tells_regular}
 use borrow.Author.Rules.{rules}
 use Rattle.set_check.proofs.tells_regular.Statement.{statement}
 use Rattle.set_check.proofs.tells_regular.Tie as tie
 
 returns : tie.Need-returns
-unfolding tellsRegular
+unfolding tells_regular
 returns c = first-of-two _ _ _ _ c.before.kind-of.ensures (omega arith)
 
 returns-2 : tie.Need-returns-2
-unfolding tellsRegular
+unfolding tells_regular
 returns-2 c = second-of-two _ _ _ _ c.before.kind-of.ensures (λ e. omega arith)
 
 pub tells-regular-spec : {M : Type 1} → statement M

@@ -1,7 +1,7 @@
 -- `set_parts::put_away` meets its contract.
 use borrow.Author.Rules.{rules}
 use Rattle.rules.specs.Bytes.{framed, bytes}
-use Rattle.rules.specs.Messages.{encodeMessage}
+use Rattle.rules.specs.Messages.{encode_message}
 use Rattle.rules.proofs.Reading.{byte}
 use Rattle.records.specs.Seen.{word_bytes}
 use Rattle.set_parts.proofs.SetMemoryLaws.{wrote}
@@ -9,7 +9,7 @@ use Rattle.set_parts.proofs.put_away.Statement.{statement}
 use Rattle.set_parts.proofs.put_away.Tie as tie
 
 returns : tie.Need-returns
-unfolding encodeMessage framed bytes word_bytes
+unfolding encode_message framed bytes word_bytes
 returns c = let s = c.before.before.before.before.before.before.before in wrote _ _ _ _ _ _ c.before.before.put-words.ensures (rw (byte s.args.s s.ranges.s.fits))
 
 pub put-away-spec : {M : Type 1} → statement M

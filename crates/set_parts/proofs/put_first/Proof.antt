@@ -3,13 +3,13 @@ use mathlib.Core.Path.{refl}
 use borrow.Author.Rules.{rules}
 use Rattle.rules.specs.Bytes.{framed, bytes}
 use Rattle.records.specs.Seen.{word_bytes}
-use Rattle.sets.specs.Set.{firstRecord}
+use Rattle.sets.specs.Set.{first_record}
 use Rattle.set_parts.proofs.SetMemoryLaws.{wrote}
 use Rattle.set_parts.proofs.put_first.Statement.{statement}
 use Rattle.set_parts.proofs.put_first.Tie as tie
 
 returns : tie.Need-returns
-unfolding firstRecord framed bytes word_bytes
+unfolding first_record framed bytes word_bytes
 returns c = wrote _ _ _ _ _ _ c.before.before.put-words.ensures refl
 
 pub put-first-spec : {M : Type 1} → statement M

@@ -4,7 +4,7 @@ use borrow.Author.Rules.{rules}
 use Rattle.rules.specs.Bytes.{framed, bytes}
 use Rattle.rules.proofs.Reading.{byte}
 use Rattle.records.specs.Seen.{word_bytes}
-use Rattle.sets.specs.Set.{leggingRecord}
+use Rattle.sets.specs.Set.{legging_record}
 use Rattle.set_parts.proofs.SetMemoryLaws.{absent, present, wrote}
 use Rattle.set_parts.proofs.put_legging.Statement.{statement}
 use Rattle.set_parts.proofs.put_legging.Tie as tie
@@ -13,7 +13,7 @@ returns : tie.Need-returns
 returns c = absent _ _ _ _ (rw c.if1.true)
 
 returns-2 : tie.Need-returns-2
-unfolding leggingRecord framed bytes word_bytes
+unfolding legging_record framed bytes word_bytes
 returns-2 c = let s = c.before.before.before.before.before.before.before.before.before.before in
     present _ _ _ _ (rw (ne_eqb s.args.l.quantity 0 c.before.before.before.before.before.before.before.if1.false))
     (wrote _ _ _ _ _ _ c.before.before.put-words.ensures

@@ -2,7 +2,7 @@
 use mathlib.Core.Path.{refl, sym, ap, ◌∙◌}
 use native.Mathlib.Omega.{arith}
 use borrow.Author.Rules.{rules}
-use Rattle.sets.specs.Set.{regularRecord, complexRecord}
+use Rattle.sets.specs.Set.{regular_record, complex_record}
 use Rattle.set_parts.proofs.SetMemoryLaws.{adds_same, left-next}
 use Rattle.set_parts.proofs.PartsLaws.{regular-there, complex-there, regular-after, complex-after}
 use Rattle.set_parts.proofs.put_next.Statement.{statement}
@@ -19,7 +19,7 @@ returns c =
     let k = regular-there _ _ _ _ _ n in
     record {
       same = left-next _ _ _ _ _ _ _ _ _ _ refl (regular-after _ _ _ _ _ n)
-          (adds_same _ _ _ _ c.before.before.put-regular.ensures (ap regularRecord c.before.before.before.before.regular-at.ensures));
+          (adds_same _ _ _ _ c.before.before.put-regular.ensures (ap regular_record c.before.before.before.before.regular-at.ensures));
       regular = omega (arith, k);
       complex = omega arith;
       one = omega arith;
@@ -42,7 +42,7 @@ returns-2 c =
     let k = complex-there _ _ _ _ _ (omega arith) (omega arith) (omega arith) n in
     record {
       same = left-next _ _ _ _ _ _ _ _ _ _ refl (complex-after _ _ _ _ _ (omega arith) (omega arith) (omega arith) n)
-          (adds_same _ _ _ _ c.before.before.put-complex.ensures (ap complexRecord c.before.before.before.before.complex-at.ensures));
+          (adds_same _ _ _ _ c.before.before.put-complex.ensures (ap complex_record c.before.before.before.before.complex-at.ensures));
       regular = omega arith;
       complex = omega (arith, k);
       one = omega arith;

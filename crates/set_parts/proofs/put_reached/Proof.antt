@@ -4,18 +4,18 @@ use borrow.Author.Tests.{ne_eqb}
 use borrow.Author.Rules.{rules}
 use Rattle.rules.specs.Bytes.{framed, bytes}
 use Rattle.records.specs.Seen.{word_bytes}
-use Rattle.sets.specs.Set.{reachedRecords}
+use Rattle.sets.specs.Set.{reached_records}
 use Rattle.set_parts.proofs.SetMemoryLaws.{absent, present, wrote}
 use Rattle.set_parts.proofs.PartsLaws.{one-joined}
 use Rattle.set_parts.proofs.put_reached.Statement.{statement}
 use Rattle.set_parts.proofs.put_reached.Tie as tie
 
 returns : tie.Need-returns
-unfolding reachedRecords
+unfolding reached_records
 returns c = rw one-joined (absent _ _ _ _ (rw c.if1.true))
 
 returns-2 : tie.Need-returns-2
-unfolding reachedRecords framed bytes word_bytes
+unfolding reached_records framed bytes word_bytes
 returns-2 c = let s = c.before.before.before.before.before.before.before.before in
     rw one-joined (present _ _ _ _ (rw (ne_eqb s.args.id 0 c.before.before.before.before.before.before.if1.false))
     (wrote _ _ _ _ _ _ c.before.before.put-words.ensures refl))

@@ -5,24 +5,24 @@ use native.Mathlib.Omega.{arith}
 use borrow.Author.Rules.{rules}
 use Rattle.rules.specs.declared.Legging.{Legging}
 use Rattle.rules.specs.Base.{held}
-use Rattle.places.specs.Layout.{leggingIn}
-use Rattle.sets.specs.Set.{leggingRecord}
-use Rattle.set_parts.specs.Parts.{recordIf, sideRecord}
+use Rattle.places.specs.Layout.{legging_in}
+use Rattle.sets.specs.Set.{legging_record}
+use Rattle.set_parts.specs.Parts.{record_if, side_record}
 use Rattle.set_parts.proofs.SetMemoryLaws.{adds_same, adds_then}
 use Rattle.set_parts.proofs.put_sides.Statement.{statement}
 use Rattle.set_parts.proofs.put_sides.Tie as tie
 
 returns : tie.Need-returns
-unfolding sideRecord
+unfolding side_record
 returns c =
     let s = c.before.before.before.before.before.before.before.before.before.before.before.before in
     let z : 2 * s.args.s ≡ 2 * s.args.s + 0 = omega arith in
     adds_then _ _ _ _ _
     (adds_same _ _ _ _ c.before.before.before.before.before.before.before.put-legging.ensures
-    (ap (λ (l : Legging). recordIf (held l.quantity) (leggingRecord s.args.s 0 l))
-    (c.before.before.before.before.before.before.before.before.before.legging-at.ensures ∙ ap (leggingIn s.args.numbers.now) z)))
+    (ap (λ (l : Legging). record_if (held l.quantity) (legging_record s.args.s 0 l))
+    (c.before.before.before.before.before.before.before.before.before.legging-at.ensures ∙ ap (legging_in s.args.numbers.now) z)))
     (adds_same _ _ _ _ c.before.before.put-legging2.ensures
-    (ap (λ (l : Legging). recordIf (held l.quantity) (leggingRecord s.args.s 1 l))
+    (ap (λ (l : Legging). record_if (held l.quantity) (legging_record s.args.s 1 l))
     c.before.before.before.before.legging-at2.ensures))
 
 pub put-sides-spec : {M : Type 1} → statement M

@@ -1,14 +1,14 @@
 -- `set_parts::put_status` meets its contract.
 use borrow.Author.Rules.{rules}
 use Rattle.rules.specs.Bytes.{framed, bytes}
-use Rattle.rules.specs.Messages.{encodeMessage}
+use Rattle.rules.specs.Messages.{encode_message}
 use Rattle.rules.proofs.Reading.{byte}
 use Rattle.set_parts.proofs.SetMemoryLaws.{wrote}
 use Rattle.set_parts.proofs.put_status.Statement.{statement}
 use Rattle.set_parts.proofs.put_status.Tie as tie
 
 returns : tie.Need-returns
-unfolding encodeMessage framed bytes
+unfolding encode_message framed bytes
 returns c = let s = c.before.before.before.before.before.before in wrote _ _ _ _ _ _ c.before.before.put.ensures
     (rw (byte s.args.s s.ranges.s.fits, byte s.args.status s.ranges.status.fits))
 

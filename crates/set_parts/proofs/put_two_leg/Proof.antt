@@ -7,7 +7,7 @@ use mir.Val.{SFits, to_z, of_z}
 use mir.ValLaws.{to_z-of_z}
 use borrow.Author.Rules.{rules}
 use Rattle.rules.specs.Bytes.{bytes, u32, i32}
-use Rattle.rules.specs.Messages.{twoLegFields}
+use Rattle.rules.specs.Messages.{two_leg_fields}
 use Rattle.rules.proofs.Reading.{byte}
 use Rattle.records.specs.Seen.{word_bytes}
 use Rattle.places.proofs.Limits.{number-cast, back32}
@@ -23,7 +23,7 @@ cast-bits : tie.Need-overflow-cast-bits
 cast-bits c = number-cast (limit-fits c)
 
 returns : tie.Need-returns
-unfolding twoLegFields bytes word_bytes
+unfolding two_leg_fields bytes word_bytes
 returns c =
     let s = c.before.before.before.before.before.before.before.before.before.before.before in
     let f = limit-fits c.before.before.before.before.before.before.before in

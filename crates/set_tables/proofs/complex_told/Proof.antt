@@ -2,23 +2,23 @@
 use mathlib.Core.Path.{◌≡◌, refl, sym, ap, ◌∙◌}
 use native.Mathlib.Omega.{arith}
 use borrow.Author.Tests.{eq-eqb, ne_eqb}
-use Rattle.rules.specs.Bytes.{kindField}
-use Rattle.sets.specs.Set.{complexTold}
+use Rattle.rules.specs.Bytes.{kind_field}
+use Rattle.sets.specs.Set.{complex_told}
 use borrow.Author.Rules.{rules}
 use Rattle.set_tables.proofs.complex_told.Statement.{statement}
 use Rattle.set_tables.proofs.complex_told.Tie as tie
 
 returns : tie.Need-returns
-unfolding complexTold
+unfolding complex_told
 returns c = rw (
-  eq-eqb (kindField c.before.before.before.before.before.before.args.r.now) 10 (omega arith),
+  eq-eqb (kind_field c.before.before.before.before.before.before.args.r.now) 10 (omega arith),
   ← c.before.before.u8-at.ensures,
   ← c.before.u8-at2.ensures,
 ) c.two-leg-at.ensures
 
 returns-2 : tie.Need-returns-2
-unfolding complexTold
-returns-2 c = rw (ne_eqb (kindField c.before.before.before.before.args.r.now) 10 (λ e. omega arith)) c.two-leg-at2.ensures
+unfolding complex_told
+returns-2 c = rw (ne_eqb (kind_field c.before.before.before.before.args.r.now) 10 (λ e. omega arith)) c.two-leg-at2.ensures
 
 pub complex-told-spec : {M : Type 1} → statement M
 complex-told-spec =

@@ -2,25 +2,25 @@
 use mathlib.Core.Path.{◌≡◌, refl, sym, ap, ◌∙◌}
 use native.Mathlib.Omega.{arith}
 use borrow.Author.Tests.{eq-eqb, ne_eqb}
-use Rattle.rules.specs.Bytes.{kindField}
-use Rattle.sets.specs.Set.{editionTold}
+use Rattle.rules.specs.Bytes.{kind_field}
+use Rattle.sets.specs.Set.{edition_told}
 use borrow.Author.Rules.{rules}
 use Rattle.set_tables.proofs.edition_told.Statement.{statement}
 use Rattle.set_tables.proofs.edition_told.Tie as tie
 
 returns : tie.Need-returns
-unfolding editionTold
+unfolding edition_told
 returns c = rw (
-  eq-eqb (kindField c.before.before.before.before.before.before.args.r.now) 8 (omega arith),
+  eq-eqb (kind_field c.before.before.before.before.before.before.args.r.now) 8 (omega arith),
   c.before.before.u32-at.ensures,
   c.before.u32-at2.ensures,
   c.u8-at.ensures,
 )
 
 returns-2 : tie.Need-returns-2
-unfolding editionTold
+unfolding edition_told
 returns-2 c = rw (
-  ne_eqb (kindField c.before.before.before.before.before.before.before.args.r.now) 8 (λ e. omega arith),
+  ne_eqb (kind_field c.before.before.before.before.before.before.before.args.r.now) 8 (λ e. omega arith),
   c.before.before.before.u32-at3.ensures,
   c.before.before.u32-at4.ensures,
   c.before.u8-at2.ensures,

@@ -3,7 +3,7 @@ use mathlib.Core.Path.{◌≡◌, ap, ◌∙◌}
 use mathlib.Core.List.{List}
 use Prim.Native.Nat.{ℕ, ◌+◌, ◌*◌, ◌-◌}
 use native.Mathlib.Omega.{arith}
-use Rattle.venue_bytes.specs.Held.{generationsAt}
+use Rattle.venue_bytes.specs.Held.{generations_at}
 use Rattle.set_tables.proofs.Telling.{generation-told}
 use borrow.Author.Rules.{rules}
 use Rattle.set_tables.proofs.put_generation.Statement.{statement}
@@ -15,7 +15,7 @@ returns c =
     let g = h.before in
     let s = g.before.before.before in
     let n : ℕ = g.u8-at.result in
-    let at : ℕ = 80 * n + generationsAt in
+    let at : ℕ = 80 * n + generations_at in
     generation-told s.args.venue.now s.args.r.now _ n _ (at + 80 - at) s.requires.0 s.requires.1 g.u8-at.ensures h.told_of.ensures (omega arith) c.before.before.push.ensures
 
 pub put-generation-spec : {M : Type 1} → statement M

@@ -3,7 +3,7 @@ use mathlib.Core.Path.{◌≡◌, sym, ap, ◌∙◌}
 use mathlib.Core.Bool.{false}
 use mathlib.Core.List.{List}
 use Prim.Native.Nat.{ℕ}
-use Rattle.sets.specs.Set.{tellsRegular, tellsComplex, tellsEdition, tellsLegging, tellsGeneration}
+use Rattle.sets.specs.Set.{tells_regular, tells_complex, tells_edition, tells_legging, tells_generation}
 use Rattle.set_tables.specs.Told.{put_of}
 use Rattle.set_tables.proofs.Telling.{put-regular, put-complex, put-edition, put-legging, put-generation, put-reached, put-nothing}
 use borrow.Author.Rules.{rules}
@@ -11,19 +11,19 @@ use Rattle.set_tables.proofs.put_record.Statement.{statement}
 use Rattle.set_tables.proofs.put_record.Tie as tie
 
 -- what the record does not have, after each test
-not-regular : (c : tie.Else1) → tellsRegular c.before.before.before.before.args.r.now ≡ false
+not-regular : (c : tie.Else1) → tells_regular c.before.before.before.before.args.r.now ≡ false
 not-regular c = sym c.before.tells-regular.ensures ∙ c.if1.false
 
-not-complex : (c : tie.Else2) → tellsComplex c.before.before.before.before.before.before.args.r.now ≡ false
+not-complex : (c : tie.Else2) → tells_complex c.before.before.before.before.before.before.args.r.now ≡ false
 not-complex c = sym c.before.tells-complex.ensures ∙ c.if2.false
 
-not-edition : (c : tie.Else3) → tellsEdition c.before.before.before.before.before.before.before.before.args.r.now ≡ false
+not-edition : (c : tie.Else3) → tells_edition c.before.before.before.before.before.before.before.before.args.r.now ≡ false
 not-edition c = sym c.before.tells-edition.ensures ∙ c.if3.false
 
-not-legging : (c : tie.Else4) → tellsLegging c.before.before.before.before.before.before.before.before.before.before.args.r.now ≡ false
+not-legging : (c : tie.Else4) → tells_legging c.before.before.before.before.before.before.before.before.before.before.args.r.now ≡ false
 not-legging c = sym c.before.tells-legging.ensures ∙ c.if4.false
 
-not-generation : (c : tie.Else5) → tellsGeneration c.before.before.before.before.before.before.before.before.before.before.before.before.args.r.now ≡ false
+not-generation : (c : tie.Else5) → tells_generation c.before.before.before.before.before.before.before.before.before.before.before.before.args.r.now ≡ false
 not-generation c = sym c.before.tells-generation.ensures ∙ c.if5.false
 
 put-order-requires : tie.Need-put-order-requires

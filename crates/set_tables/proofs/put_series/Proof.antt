@@ -5,9 +5,9 @@ use Prim.Native.Nat.{ℕ, ◌+◌, ◌*◌, ◌-◌, ◌≤◌}
 use native.Mathlib.Omega.{arith}
 use lib.ListN.{length}
 use Rattle.rules.specs.declared.Listed.{Listed}
-use Rattle.rules.specs.Words.{notListed}
-use Rattle.sets.specs.Set.{venueTold, listedTold, upward}
-use Rattle.venue_bytes.specs.Held.{listedBytes}
+use Rattle.rules.specs.Words.{not_listed}
+use Rattle.sets.specs.Set.{venue_told, listed_told, upward}
+use Rattle.venue_bytes.specs.Held.{listed_bytes}
 use Rattle.venue_bytes.proofs.Rows.{Written, written_none, written-room, written_next, written_all}
 use Rattle.venue_bytes.proofs.Widths.{listed-width}
 use Rattle.set_tables.specs.Told.{row_in, listed_of}
@@ -19,19 +19,19 @@ use Rattle.set_tables.proofs.put_series.Tie as tie
 
 -- the series' rows
 abbrev listed : List ℕ → List Listed
-listed memory = upward (listedTold (row_in memory)) 0 8
+listed memory = upward (listed_told (row_in memory)) 0 8
 
 abbrev invariant-loop : tie.invariant-loop
-invariant-loop memory venue₀ at₀ s₀ venue at s = Listing memory at s × Written listedBytes 2528 (listed memory) venue₀ venue s
+invariant-loop memory venue₀ at₀ s₀ venue at s = Listing memory at s × Written listed_bytes 2528 (listed memory) venue₀ venue s
 
 abbrev decreases-loop : tie.decreases-loop
 decreases-loop memory venue₀ at₀ s₀ venue at s = 8 - s
 
 fits : (s : tie.Start invariant-loop decreases-loop) → 9 * length (listed s.args.memory.now) + 2528 ≤ length s.args.venue.now
-fits s = omega (arith, upward-long (listedTold (row_in s.args.memory.now)) 0 8, s.requires.size)
+fits s = omega (arith, upward-long (listed_told (row_in s.args.memory.now)) 0 8, s.requires.size)
 
 loop-holds : tie.Need-loop-init invariant-loop decreases-loop
-loop-holds c = (listing_start _ _ c.before.before.before.requires.readable c.size-at.ensures, written_none listedBytes 2528 _ _)
+loop-holds c = (listing_start _ _ c.before.before.before.requires.readable c.size-at.ensures, written_none listed_bytes 2528 _ _)
 
 -- the two records of a series
 status : (c : tie.After-size-at2 invariant-loop decreases-loop) →
@@ -80,24 +80,24 @@ loop-again c =
     let a = status c.before.before.before.before.before.before.before.before in
     let e = away c.before.before.before.before.before.before.before in (
       listing-next _ t _ _ h.loop.invariant.0 g.loop-test.true _ a _ e,
-      written_next listedBytes 9 listed-width 2528 (listed m) start.args.venue.now (fits start) h.loop.venue k h.loop.invariant.1 notListed _ _ _
-          (omega (arith, upward-long (listedTold (row_in m)) 0 8))
+      written_next listed_bytes 9 listed-width 2528 (listed m) start.args.venue.now (fits start) h.loop.venue k h.loop.invariant.1 not_listed _ _ _
+          (omega (arith, upward-long (listed_told (row_in m)) 0 8))
           (listed-is _ t _ _ h.loop.invariant.0 g.loop-test.true _ a _ e _ (c.before.before.before.before.listed-told.ensures ∙ ap₂ listed_of a.lent e.lent)
-          ∙ sym (upward-at (listedTold (row_in m)) notListed 0 8 k (omega arith) ∙ ap (listedTold (row_in m)) z))
+          ∙ sym (upward-at (listed_told (row_in m)) not_listed 0 8 k (omega arith) ∙ ap (listed_told (row_in m)) z))
           refl c.before.before.put-listed.ensures,
     )
 
 same_length : tie.Need-same-length invariant-loop decreases-loop
 same_length c = let s = c.before.before.before.before.before in let h = c.before in
-    written-room listedBytes 9 listed-width 2528 (listed s.args.memory.now) s.args.venue.now (fits s) h.loop.venue h.loop.s h.loop.invariant.1
+    written-room listed_bytes 9 listed-width 2528 (listed s.args.memory.now) s.args.venue.now (fits s) h.loop.venue h.loop.s h.loop.invariant.1
 
 returns : tie.Need-returns invariant-loop decreases-loop
-unfolding venueTold
+unfolding venue_told
 returns c =
     let s = c.before.before.before.before.before in
     let h = c.before in
     let m : List ℕ = s.args.memory.now in
-    written_all listedBytes 2528 (listed m) s.args.venue.now h.loop.venue h.loop.s h.loop.invariant.1 (omega (arith, upward-long (listedTold (row_in m)) 0 8))
+    written_all listed_bytes 2528 (listed m) s.args.venue.now h.loop.venue h.loop.s h.loop.invariant.1 (omega (arith, upward-long (listed_told (row_in m)) 0 8))
 
 pub put-series-spec : {M : Type 1} → statement M
 put-series-spec =

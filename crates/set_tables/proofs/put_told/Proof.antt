@@ -5,8 +5,8 @@ use Prim.Native.Nat.{ℕ, ◌<◌}
 use native.Mathlib.Omega.{arith}
 use lib.ListN.{length, get_or}
 use Rattle.rules.specs.Bytes.{u32}
-use Rattle.sets.specs.Set.{lastTold, venueTold}
-use Rattle.venue_bytes.specs.Held.{venueBytes, venueFrom}
+use Rattle.sets.specs.Set.{last_told, venue_told}
+use Rattle.venue_bytes.specs.Held.{venue_bytes, venue_from}
 use Rattle.set_tables.specs.Told.{row_in}
 use Rattle.set_tables.proofs.Fitting.{all_told, told_back, bytes-all}
 use borrow.Author.Rules.{rules}
@@ -14,7 +14,7 @@ use Rattle.set_tables.proofs.put_told.Statement.{statement}
 use Rattle.set_tables.proofs.put_told.Tie as tie
 
 returns : tie.Need-returns
-unfolding lastTold
+unfolding last_told
 returns c =
     let l = c.before.before.before.before.before.before in
     let h = l.before.before.before in
@@ -25,7 +25,7 @@ returns c =
     let m : List ℕ = s.args.memory.now in
     let bytes = all_told (row_in m) t.ordered _ _ _ _ _ g.put-records.ensures h.put-series.ensures c.before.before.put.ensures
     (c.before.before.before.before.before.bytes4.ensures ∙ ap u32 l.first-told.ensures) in
-    record { bytes = bytes; back = ap venueFrom bytes ∙ told_back m t (bytes-all m (λ i h. omega (arith, k.shared-slice-known.given i))) }
+    record { bytes = bytes; back = ap venue_from bytes ∙ told_back m t (bytes-all m (λ i h. omega (arith, k.shared-slice-known.given i))) }
 
 pub put-told-spec : {M : Type 1} → statement M
 put-told-spec =

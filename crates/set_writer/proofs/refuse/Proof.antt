@@ -5,12 +5,12 @@ use Prim.Native.Nat.{ℕ, ◌-◌}
 use native.Mathlib.Omega.{arith}
 use lib.ListN.{length, replicate}
 use borrow.Author.Rules.{rules}
-use Rattle.sets.specs.Set.{notWritten}
+use Rattle.sets.specs.Set.{not_written}
 use Rattle.set_writer.proofs.refuse.Statement.{statement}
 use Rattle.set_writer.proofs.refuse.Tie as tie
 
 returns : tie.Need-returns
-unfolding notWritten
+unfolding not_written
 returns c =
     let s = c.before.before.before.before.before in
     let z : length s.args.memory.now - 0 ≡ length s.args.memory.now = omega arith in

@@ -7,9 +7,9 @@ use borrow.Author.Tests.{not-true, not-false}
 use borrow.Author.Rules.{rules}
 use Rattle.rules.specs.declared.Venue.{Venue}
 use Rattle.rules.specs.Sound.{sound, follows}
-use Rattle.venue_bytes.specs.Held.{venueFrom}
-use Rattle.sets.specs.Set.{setOf, joined}
-use Rattle.set_parts.specs.SetMemory.{setMemory, ◌adds◌}
+use Rattle.venue_bytes.specs.Held.{venue_from}
+use Rattle.sets.specs.Set.{set_of, joined}
+use Rattle.set_parts.specs.SetMemory.{set_memory, ◌adds◌}
 use Rattle.set_parts.proofs.SetMemoryLaws.{adds_same}
 use Rattle.set_writer.proofs.SavingLaws.{not_carried, no_room, all-written}
 use Rattle.set_writer.proofs.write_set.Statement.{statement}
@@ -17,7 +17,7 @@ use Rattle.set_writer.proofs.write_set.Tie as tie
 
 -- the venue that the bytes stand for
 abbrev held : tie.Start → Venue
-held s = venueFrom s.args.venue.now
+held s = venue_from s.args.venue.now
 
 -- what was known at first
 abbrev start : tie.Else1 → tie.Start
@@ -29,11 +29,11 @@ passed c = sym c.before.before.load-bytes-ready.ensures.answer ∙ not-false _ c
 
 -- its set is written
 put : (c : tie.After-put-set) → (let s = start c.before.before.before in
-    setMemory c.put-set.new.1.1.0 c.put-set.result ≡ setMemory s.args.memory.now 0 adds joined (setOf s.args.number (held s)))
+    set_memory c.put-set.new.1.1.0 c.put-set.result ≡ set_memory s.args.memory.now 0 adds joined (set_of s.args.number (held s)))
 put c =
     let s = start c.before.before.before in
     adds_same _ _ _ _ c.put-set.ensures
-    (ap (λ (v : Venue). joined (setOf s.args.number v))
+    (ap (λ (v : Venue). joined (set_of s.args.number v))
     (c.before.before.before.before.before.load-bytes-ready.ensures.loaded (not-false _ c.before.before.before.if1.false)).venue)
 
 returns : tie.Need-returns

@@ -3,14 +3,14 @@ use mathlib.Core.Path.{◌≡◌, ◌∙◌}
 use Prim.Native.Nat.{◌-◌}
 use native.Mathlib.Omega.{arith}
 use borrow.Author.Rules.{rules}
-use Rattle.rules.specs.Settings.{inForce}
-use Rattle.places.specs.Layout.{venueOf}
-use Rattle.settings.proofs.ForcedLaws.{valueOn, value-first, value-next, value-last}
+use Rattle.rules.specs.Settings.{in_force}
+use Rattle.places.specs.Layout.{venue_of}
+use Rattle.settings.proofs.ForcedLaws.{value_on, value-first, value-next, value-last}
 use Rattle.settings.proofs.value_at.Statement.{statement}
 use Rattle.settings.proofs.value_at.Tie as tie
 
 abbrev invariant-loop : tie.invariant-loop
-invariant-loop b number f x₀ i₀ x i = valueOn b number f x i ≡ inForce (venueOf b) number f
+invariant-loop b number f x₀ i₀ x i = value_on b number f x i ≡ in_force (venue_of b) number f
 
 abbrev decreases-loop : tie.decreases-loop
 decreases-loop b number f x₀ i₀ x i = 32 - i

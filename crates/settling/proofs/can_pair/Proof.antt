@@ -1,6 +1,6 @@
 -- `settling::can_pair` meets its contract.
 use Rattle.settling.proofs.PartsLaws.{pair-none, pair-dear, pair_size, size_is}
-use Rattle.places.specs.Layout.{venueOf}
+use Rattle.places.specs.Layout.{venue_of}
 use Rattle.rules.proofs.Machine.{back}
 use mathlib.Core.Path.{◌∙◌}
 use borrow.Author.Rules.{rules}
@@ -19,7 +19,7 @@ returns-2 c =
     c.before.before.before.before.before.before.before.if1.false c.before.before.before.before.before.before.other-leg.result
     c.before.before.before.before.before.before.other-leg.ensures _ _
     (back {z = u.result} (record { sfits = u.type-inv }) ∙ u.ensures.0) (back {z = w.result} (record { sfits = w.type-inv }) ∙ w.ensures.0) c.before.before.before.if2.true _
-    (size_is (venueOf a.numbers.now) a.taken a.c _ c.before.before.before.before.before.before.before.before.before.before.requires.taken
+    (size_is (venue_of a.numbers.now) a.taken a.c _ c.before.before.before.before.before.before.before.before.before.before.requires.taken
     c.before.before.other-level.result c.before.before.other-level.ensures)
 
 returns-3 : tie.Need-returns-3

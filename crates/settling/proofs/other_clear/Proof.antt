@@ -1,7 +1,7 @@
 -- `settling::other_clear` meets its contract.
 use Rattle.settling.proofs.PartsLaws.{other-in, other-price, clear-is}
 use Rattle.levels.proofs.Sides.{opposite-in}
-use Rattle.places.specs.Layout.{venueOf}
+use Rattle.places.specs.Layout.{venue_of}
 use borrow.Author.Rules.{rules}
 use Rattle.settling.proofs.other_clear.Statement.{statement}
 use Rattle.settling.proofs.other_clear.Tie as tie
@@ -12,7 +12,7 @@ clear-price-requires c κs =
     let a = c.before.before.before.before.args in
     let o = c.before.before.other-leg in record {
       whole = p.whole;
-      best = other-price (venueOf a.numbers.now) a.taken a.c a.s p.taken c.before.other-level.result c.before.other-level.ensures o.result
+      best = other-price (venue_of a.numbers.now) a.taken a.c a.s p.taken c.before.other-level.result c.before.other-level.ensures o.result
           o.ensures _ c.opposite-of.ensures;
       series = other-in _ _ o.result o.ensures p.legs;
       side = rw c.opposite-of.ensures (opposite-in _);

@@ -1,7 +1,7 @@
 -- `settling::others_stand` meets its contract.
-use Rattle.settling.proofs.CausesFound.{standFrom, stand-own, stand-free, stand-past, stand-fails, stand-end, stand-all}
-use Rattle.places.specs.Layout.{venueOf}
-use Rattle.rules.specs.Generation.{othersStand}
+use Rattle.settling.proofs.CausesFound.{stand_from, stand-own, stand-free, stand-past, stand-fails, stand-end, stand-all}
+use Rattle.places.specs.Layout.{venue_of}
+use Rattle.rules.specs.Generation.{others_stand}
 use mathlib.Core.Path.{◌≡◌, ◌∙◌}
 use Prim.Native.Nat.{◌-◌, ◌≤◌}
 use borrow.Author.Rules.{rules}
@@ -9,7 +9,7 @@ use Rattle.settling.proofs.others_stand.Statement.{statement}
 use Rattle.settling.proofs.others_stand.Tie as tie
 
 abbrev invariant-loop : tie.invariant-loop
-invariant-loop b g m n₀ n = (n ≤ 16) × (standFrom b m n ≡ othersStand (venueOf b) m 0 (venueOf b).legging)
+invariant-loop b g m n₀ n = (n ≤ 16) × (stand_from b m n ≡ others_stand (venue_of b) m 0 (venue_of b).legging)
 
 abbrev decreases-loop : tie.decreases-loop
 decreases-loop b g m n₀ n = 16 - n

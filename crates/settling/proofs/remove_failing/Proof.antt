@@ -1,6 +1,6 @@
 -- `settling::remove_failing` meets its contract.
 use Rattle.removal.proofs.RemovalLaws.{remove-none, no-causes, causes-are}
-use Rattle.places.specs.Layout.{venueOf}
+use Rattle.places.specs.Layout.{venue_of}
 use Rattle.records.proofs.StageLaws.{does-nothing}
 use Rattle.records.specs.Stage.{◌does◌}
 use Rattle.records.specs.Seen.{seen}
@@ -19,7 +19,7 @@ none-stands-requires c κs = let s = c.before.before.before in record { whole = 
 returns : tie.Need-returns
 returns c =
     let a = c.before.before.before.before.before.args in
-    let v = venueOf a.numbers.now in (
+    let v = venue_of a.numbers.now in (
       does-nothing v a.out.now a.at
           ∙ ap (λ (e : Effect). seen a.out.now a.at does e) (sym (remove-none (verdict v) v (eqb-true _ _ (sym c.before.none-stands.ensures ∙ c.if1.true)))),
       record { regulars = refl; complexes = refl; right = λ h. h },
@@ -29,7 +29,7 @@ returns-2 : tie.Need-returns-2
 returns-2 c =
     let s = c.before.before.before.before.before.before.before.before in
     let a = s.args in
-    let v = venueOf a.numbers.now in (
+    let v = venue_of a.numbers.now in (
       does-nothing v a.out.now a.at
           ∙ ap (λ (e : Effect). seen a.out.now a.at does e) (unasked-none a.numbers.now a.s _ s.requires.others c.before.places-asked.ensures c.if2.true),
       record { regulars = refl; complexes = refl; right = λ h. h },
@@ -52,7 +52,7 @@ verdicts-requires c κs =
 returns-3 : tie.Need-returns-3
 returns-3 c =
     let a = c.before.before.before.before.before.before.before.before.before.before.before.before.before.args in
-    let v = venueOf a.numbers.now in
+    let v = venue_of a.numbers.now in
     let m = c.before.verdicts in (
       does-nothing v a.out.now a.at
           ∙ ap (λ (e : Effect). seen a.out.now a.at does e) (no-causes m.result v c.if3.true ∙ causes-are (verdict v) m.result a.numbers.now m.ensures),
@@ -64,7 +64,7 @@ returns-4 c =
     let a = c.before.before.before.before.before.before.before.before.before.before.before.before.before.before.before.before.before.before.before.before.args in
     let m = c.before.before.before.before.before.before.before.before.verdicts in
     let w = c.before.before.before.before.remove-by-causes in
-    (w.ensures.0 ∙ ap (λ (e : Effect). seen a.out.now a.at does e) (causes-are (verdict (venueOf a.numbers.now)) m.result a.numbers.now m.ensures), w.ensures.1)
+    (w.ensures.0 ∙ ap (λ (e : Effect). seen a.out.now a.at does e) (causes-are (verdict (venue_of a.numbers.now)) m.result a.numbers.now m.ensures), w.ensures.1)
 
 pub remove-failing-spec : {M : Type 1} → statement M
 remove-failing-spec =

@@ -4,7 +4,7 @@ use Rattle.rules.specs.Effects.{Effect}
 use Rattle.records.specs.Seen.{seen}
 use Rattle.records.specs.Stage.{◌does◌}
 use Rattle.records.proofs.StageLaws.{does-nothing}
-use Rattle.places.specs.Layout.{venueOf}
+use Rattle.places.specs.Layout.{venue_of}
 use Rattle.settling.proofs.Asking.{settle-none}
 use borrow.Author.Rules.{rules}
 use Rattle.settling.proofs.settle_standing.Statement.{statement}
@@ -14,7 +14,7 @@ returns : tie.Need-returns
 returns c =
     let s = c.before.before.before.before.before in
     let a = s.args in (
-      does-nothing (venueOf a.numbers.now) a.out.now a.at
+      does-nothing (venue_of a.numbers.now) a.out.now a.at
           ∙ ap (λ (e : Effect). seen a.out.now a.at does e)
           (settle-none a.numbers.now s.requires.right (sym c.before.none-shows-again.ensures ∙ c.if1.true) s.requires.stand),
       record { regulars = refl; complexes = refl; right = λ h. h },

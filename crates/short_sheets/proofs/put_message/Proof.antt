@@ -1,6 +1,6 @@
 use native.Mathlib.Omega.{arith}
 use Rattle.rules.specs.Opened.{opened-rules}
-use Rattle.short_sheets.specs.Short.{list, messageAt, messagesOf}
+use Rattle.short_sheets.specs.Short.{list, message_at, messages_of}
 use Rattle.short_sheets.proofs.Listed.{listed, message-is}
 use borrow.Author.Rules.{rules}
 use Rattle.short_sheets.proofs.put_message.Statement.{statement}
@@ -16,7 +16,7 @@ put-part-requires : tie.Need-put-part-requires
 put-part-requires c κs = let l = listed _ c.before.before.before.before.requires in (l.in_order, omega arith)
 
 returns : tie.Need-returns
-unfolding list messageAt messagesOf opened-rules
+unfolding list message_at messages_of opened-rules
 returns c = message-is _ _ _ (listed _ c.before.before.before.before.before.before.before.requires) c.before.before.put-part.ensures
 
 pub put-message-spec : {M : Type 1} → statement M

@@ -1,21 +1,21 @@
 use mathlib.Core.Path.{ap}
 use Rattle.text.specs.Typing.{◌types◌}
 use Rattle.short_sessions.specs.Values.{places_of}
-use Rattle.short_sheets.specs.Short.{placesLine}
+use Rattle.short_sheets.specs.Short.{places_line}
 use borrow.Author.Rules.{rules}
 use Rattle.short_sheets.proofs.put_places.Statement.{statement}
 use Rattle.short_sheets.proofs.put_places.Tie as tie
 
 returns : tie.Need-returns
-unfolding placesLine ◌types◌
+unfolding places_line ◌types◌
 returns c = rw (ap places_of c.before.before.before.before.before.enum_told.given.1) c.before.before.put.ensures
 
 returns-2 : tie.Need-returns-2
-unfolding placesLine ◌types◌
+unfolding places_line ◌types◌
 returns-2 c = rw (ap places_of c.before.before.before.before.before.before.before.s.given.1, ← c.before.before.before.before.printed.ensures) c.before.before.put-fields.ensures
 
 returns-3 : tie.Need-returns-3
-unfolding placesLine ◌types◌
+unfolding places_line ◌types◌
 returns-3 c = rw (
   ap places_of c.before.before.before.before.before.before.before.before.s2.given.1,
   ← c.before.before.before.before.printed3.ensures,
@@ -24,7 +24,7 @@ returns-3 c = rw (
     c.before.before.put-fields2.ensures
 
 returns-4 : tie.Need-returns-4
-unfolding placesLine ◌types◌
+unfolding places_line ◌types◌
 returns-4 c = rw (
   ap places_of c.before.before.before.before.before.before.before.before.before.s3.given.1,
   ← c.before.before.before.before.printed6.ensures,

@@ -1,17 +1,17 @@
 -- `soundness::blank_legging` meets its contract.
 use borrow.Author.Tests.{ne_eqb}
-use Rattle.rules.specs.Places.{blankLegging}
+use Rattle.rules.specs.Places.{blank_legging}
 use Rattle.rules.proofs.Tests.{and-false}
 use Rattle.soundness.proofs.Beside.{legging-zero}
 use Rattle.soundness.proofs.blank_legging.Statement.{statement}
 use Rattle.soundness.proofs.blank_legging.Tie as tie
 
 returns : tie.Need-returns
-unfolding blankLegging
+unfolding blank_legging
 returns c = simp (ne_eqb _ _ c.if1.true)
 
 returns-2 : tie.Need-returns-2
-unfolding blankLegging
+unfolding blank_legging
 returns-2 c = simp (ne_eqb _ _ c.if2.true, and-false)
 
 returns-3 : tie.Need-returns-3

@@ -9,9 +9,9 @@ use borrow.Author.Tests.{not-true, not-false}
 use borrow.Author.Rules.{rules}
 use Rattle.rules.specs.declared.Generations.{Generations}
 use Rattle.rules.specs.Base.{all}
-use Rattle.rules.specs.Words.{noGenerations}
-use Rattle.rules.specs.Generation.{generationsOf}
-use Rattle.places.specs.Layout.{venueOf}
+use Rattle.rules.specs.Words.{no_generations}
+use Rattle.rules.specs.Generation.{generations_of}
+use Rattle.places.specs.Layout.{venue_of}
 use Rattle.places.proofs.Generations.{generations-many}
 use Rattle.venue_reader.proofs.Passes.{rest-past, rest-stop, rest-none}
 use Rattle.soundness.proofs.follows_generations.Statement.{statement}
@@ -21,7 +21,7 @@ abbrev earlier : (number : ℕ) → Generations → Bool
 earlier number g = all (λ n. ltb n number) g.messages
 
 abbrev invariant-loop : tie.invariant-loop
-invariant-loop b number s₀ s = all (earlier number) (drop s (venueOf b).generations) ≡ all (earlier number) (venueOf b).generations
+invariant-loop b number s₀ s = all (earlier number) (drop s (venue_of b).generations) ≡ all (earlier number) (venue_of b).generations
 
 abbrev decreases-loop : tie.decreases-loop
 decreases-loop b number s₀ s = 8 - s
@@ -33,23 +33,23 @@ returns : tie.Need-returns invariant-loop decreases-loop
 returns c =
     let s = c.before.before.before.before.before in
     let n = generations-many s.args.numbers.now in
-    rest-stop (earlier s.args.number) noGenerations (venueOf s.args.numbers.now).generations c.before.before.before.loop.s (omega arith) _ refl
-    (unfold generationsOf in (sym c.before.follows-series.ensures ∙ not-true _ c.if1.true))
+    rest-stop (earlier s.args.number) no_generations (venue_of s.args.numbers.now).generations c.before.before.before.loop.s (omega arith) _ refl
+    (unfold generations_of in (sym c.before.follows-series.ensures ∙ not-true _ c.if1.true))
     ∙ c.before.before.before.loop.invariant
 
 loop-again : tie.Need-loop-preserved invariant-loop decreases-loop
 loop-again c =
     let s = c.before.before.before.before.before in
     let n = generations-many s.args.numbers.now in
-    rest-past (earlier s.args.number) noGenerations (venueOf s.args.numbers.now).generations c.before.before.before.loop.s (omega arith) _ refl
-    (unfold generationsOf in (sym c.before.follows-series.ensures ∙ not-false _ c.if1.false))
+    rest-past (earlier s.args.number) no_generations (venue_of s.args.numbers.now).generations c.before.before.before.loop.s (omega arith) _ refl
+    (unfold generations_of in (sym c.before.follows-series.ensures ∙ not-false _ c.if1.false))
     ∙ c.before.before.before.loop.invariant
 
 returns-2 : tie.Need-returns-2 invariant-loop decreases-loop
 returns-2 c =
     let s = c.before.before.before in
     let n = generations-many s.args.numbers.now in
-    rest-none (earlier s.args.number) noGenerations (venueOf s.args.numbers.now).generations c.before.loop.s (omega arith) ∙ c.before.loop.invariant
+    rest-none (earlier s.args.number) no_generations (venue_of s.args.numbers.now).generations c.before.loop.s (omega arith) ∙ c.before.loop.invariant
 
 pub follows-generations-spec : {M : Type 1} → statement M
 follows-generations-spec =

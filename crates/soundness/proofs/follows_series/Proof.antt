@@ -8,8 +8,8 @@ use lib.ListN.{drop}
 use borrow.Author.Tests.{lt-ltb, le-ltb}
 use borrow.Author.Rules.{rules}
 use Rattle.rules.specs.Base.{all}
-use Rattle.rules.specs.Generation.{generationsOf}
-use Rattle.places.specs.Layout.{venueOf}
+use Rattle.rules.specs.Generation.{generations_of}
+use Rattle.places.specs.Layout.{venue_of}
 use Rattle.places.proofs.Generations.{generations-twenty}
 use Rattle.venue_reader.proofs.Passes.{rest-past, rest-stop, rest-none}
 use Rattle.soundness.proofs.follows_series.Statement.{statement}
@@ -19,7 +19,7 @@ abbrev earlier : (number : ℕ) → ℕ → Bool
 earlier number n = ltb n number
 
 abbrev invariant-loop : tie.invariant-loop
-invariant-loop b s number k₀ k = all (earlier number) (drop k (generationsOf (venueOf b) s)) ≡ all (earlier number) (generationsOf (venueOf b) s)
+invariant-loop b s number k₀ k = all (earlier number) (drop k (generations_of (venue_of b) s)) ≡ all (earlier number) (generations_of (venue_of b) s)
 
 abbrev decreases-loop : tie.decreases-loop
 decreases-loop b s number k₀ k = 20 - k
@@ -30,7 +30,7 @@ loop-holds c = refl
 returns : tie.Need-returns invariant-loop decreases-loop
 returns c =
     let s = c.before.before.before.before.before in
-    let l = generationsOf (venueOf s.args.numbers.now) s.args.s in
+    let l = generations_of (venue_of s.args.numbers.now) s.args.s in
     let n = generations-twenty s.args.numbers.now s.args.s in
     let k = c.before.before.before.loop.k in
     rest-stop (earlier s.args.number) 0 l k (omega arith) c.before.generation-at.result c.before.generation-at.ensures
@@ -40,7 +40,7 @@ returns c =
 loop-again : tie.Need-loop-preserved invariant-loop decreases-loop
 loop-again c =
     let s = c.before.before.before.before.before in
-    let l = generationsOf (venueOf s.args.numbers.now) s.args.s in
+    let l = generations_of (venue_of s.args.numbers.now) s.args.s in
     let n = generations-twenty s.args.numbers.now s.args.s in
     let k = c.before.before.before.loop.k in
     rest-past (earlier s.args.number) 0 l k (omega arith) c.before.generation-at.result c.before.generation-at.ensures
@@ -51,7 +51,7 @@ returns-2 : tie.Need-returns-2 invariant-loop decreases-loop
 returns-2 c =
     let s = c.before.before.before in
     let n = generations-twenty s.args.numbers.now s.args.s in
-    rest-none (earlier s.args.number) 0 (generationsOf (venueOf s.args.numbers.now) s.args.s) c.before.loop.k (omega arith) ∙ c.before.loop.invariant
+    rest-none (earlier s.args.number) 0 (generations_of (venue_of s.args.numbers.now) s.args.s) c.before.loop.k (omega arith) ∙ c.before.loop.invariant
 
 pub follows-series-spec : {M : Type 1} → statement M
 follows-series-spec =

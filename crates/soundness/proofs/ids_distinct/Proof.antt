@@ -3,20 +3,20 @@ use mathlib.Core.Path.{ap}
 use Prim.Native.Nat.{◌+◌, ◌-◌, ◌≤◌}
 use native.Mathlib.Omega.{arith}
 use Rattle.rules.specs.declared.Complex.{Complex}
-use Rattle.places.specs.Layout.{venueOf}
+use Rattle.places.specs.Layout.{venue_of}
 use Rattle.soundness.proofs.Merged.{Passed, passed_first, regulars-passed, complexes-passed, ids-met, regular-passed, complex-passed}
 use borrow.Author.Rules.{rules}
 use Rattle.soundness.proofs.ids_distinct.Statement.{statement}
 use Rattle.soundness.proofs.ids_distinct.Tie as tie
 
 abbrev invariant-loop : tie.invariant-loop
-invariant-loop b n m i₀ j₀ i j = (i ≤ n) × (j ≤ m) × Passed (venueOf b) i j
+invariant-loop b n m i₀ j₀ i j = (i ≤ n) × (j ≤ m) × Passed (venue_of b) i j
 
 abbrev decreases-loop : tie.decreases-loop
 decreases-loop b n m i₀ j₀ i j = (n - i) + (m - j)
 
 loop-holds : tie.Need-loop-init invariant-loop decreases-loop
-loop-holds c = (search rules, search rules, passed_first (venueOf c.before.before.before.args.numbers.now))
+loop-holds c = (search rules, search rules, passed_first (venue_of c.before.before.before.args.numbers.now))
 
 returns : tie.Need-returns invariant-loop decreases-loop
 returns c =

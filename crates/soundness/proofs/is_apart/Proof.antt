@@ -1,7 +1,7 @@
 -- `soundness::is_apart` meets its contract.
 use native.Mathlib.Omega.{arith}
 use mathlib.Core.Path.{refl}
-use Rattle.places.specs.Layout.{venueOf}
+use Rattle.places.specs.Layout.{venue_of}
 use Rattle.soundness.proofs.Beside.{apart-no-bid, apart-no-offer, apart-both}
 use Rattle.soundness.proofs.is_apart.Statement.{statement}
 use Rattle.soundness.proofs.is_apart.Tie as tie
@@ -15,7 +15,7 @@ best-own-requires c κs = let p = c.before.before.requires in record { whole = p
 returns : tie.Need-returns
 returns c =
     let s = c.before.before.before.before in
-    apart-no-bid (venueOf s.args.numbers.now) s.args.s _ _ c.before.best-own.ensures refl c.if1.true
+    apart-no-bid (venue_of s.args.numbers.now) s.args.s _ _ c.before.best-own.ensures refl c.if1.true
 
 best-regular-requires-2 : tie.Need-best-regular-requires-2
 best-regular-requires-2 c κs = let p = c.before.before.before.before.requires in record { whole = p.whole; right = p.right; series = p.series; side = omega arith }
@@ -28,14 +28,14 @@ returns-2 : tie.Need-returns-2
 returns-2 c =
     let p3 = c.before.before.before in
     let s = p3.before.before.before.before in
-    apart-no-offer (venueOf s.args.numbers.now) s.args.s _ _ p3.before.best-own.ensures c.before.best-own2.ensures p3.if1.false
+    apart-no-offer (venue_of s.args.numbers.now) s.args.s _ _ p3.before.best-own.ensures c.before.best-own2.ensures p3.if1.false
     c.if2.true
 
 returns-3 : tie.Need-returns-3
 returns-3 c =
     let p3 = c.before.before.before in
     let s = p3.before.before.before.before in
-    apart-both (venueOf s.args.numbers.now) s.args.s _ _ p3.before.best-own.ensures c.before.best-own2.ensures p3.if1.false c.if2.false
+    apart-both (venue_of s.args.numbers.now) s.args.s _ _ p3.before.best-own.ensures c.before.best-own2.ensures p3.if1.false c.if2.false
 
 pub is-apart-spec : {M : Type 1} → statement M
 is-apart-spec =

@@ -1,27 +1,27 @@
 -- `soundness::legging_in_range` meets its contract.
 use native.Mathlib.Omega.{arith}
-use Rattle.rules.specs.Words.{isId, isPrice, isQuantity}
+use Rattle.rules.specs.Words.{is_id, is_price, is_quantity}
 use Rattle.rules.proofs.Tests.{and-false}
-use Rattle.soundness.specs.Checked.{leggingInRange}
+use Rattle.soundness.specs.Checked.{legging_in_range}
 use Rattle.rules.proofs.Ranges.{below, above}
 use Rattle.soundness.proofs.Beside.{legging-quantity}
 use Rattle.soundness.proofs.legging_in_range.Statement.{statement}
 use Rattle.soundness.proofs.legging_in_range.Tie as tie
 
 returns : tie.Need-returns
-unfolding leggingInRange isId
+unfolding legging_in_range is_id
 returns c = let l = c.before.before.args.l in rw (below 1 4294967295 l.parent (omega arith))
 
 returns-2 : tie.Need-returns-2
-unfolding leggingInRange isPrice
+unfolding legging_in_range is_price
 returns-2 c = let l = c.before.before.before.before.args.l in simp (below 1 100000 l.price (omega arith), and-false)
 
 returns-3 : tie.Need-returns-3
-unfolding leggingInRange isPrice
+unfolding legging_in_range is_price
 returns-3 c = let l = c.before.before.before.before.before.before.args.l in simp (above 1 100000 l.price c.if3.true, and-false)
 
 returns-4 : tie.Need-returns-4
-unfolding leggingInRange isQuantity
+unfolding legging_in_range is_quantity
 returns-4 c = let l = c.before.before.before.before.before.before.before.before.args.l in simp (below 1 10000 l.quantity (omega arith), and-false)
 
 returns-5 : tie.Need-returns-5

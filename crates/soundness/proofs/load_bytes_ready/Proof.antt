@@ -1,22 +1,22 @@
 -- `soundness::load_bytes_ready` meets its contract.
 use mathlib.Core.Path.{sym, ◌∙◌}
 use borrow.Author.Tests.{not-true, not-false}
-use Rattle.venue_bytes.specs.Held.{venueFrom}
+use Rattle.venue_bytes.specs.Held.{venue_from}
 use Rattle.soundness.proofs.ReadyFor.{unready, ready-last, ready-next}
 use borrow.Author.Rules.{rules}
 use Rattle.soundness.proofs.load_bytes_ready.Statement.{statement}
 use Rattle.soundness.proofs.load_bytes_ready.Tie as tie
 
 returns : tie.Need-returns
-returns c = let s = c.before.before.before.before.before.before.before in unready (venueFrom s.args.venue.now) s.args.before _ (sym c.before.before.before.load-bytes.ensures.answer ∙ not-true _ c.if1.true)
+returns c = let s = c.before.before.before.before.before.before.before in unready (venue_from s.args.venue.now) s.args.before _ (sym c.before.before.before.load-bytes.ensures.answer ∙ not-true _ c.if1.true)
 
 returns-2 : tie.Need-returns-2
 returns-2 c = let s = c.before.before.before.before.before.before.before.before in let k = c.before.before.before.before.load-bytes.ensures in let t = not-false _ c.before.if1.false in
-    ready-last (venueFrom s.args.venue.now) s.args.before _ (sym k.answer ∙ t) (k.loaded t) c.if2.true
+    ready-last (venue_from s.args.venue.now) s.args.before _ (sym k.answer ∙ t) (k.loaded t) c.if2.true
 
 returns-3 : tie.Need-returns-3
 returns-3 c = let s = c.before.before.before.before.before.before.before.before.before.before in let k = c.before.before.before.before.before.before.load-bytes.ensures in let t = not-false _ c.before.before.before.if1.false in
-    ready-next (venueFrom s.args.venue.now) s.args.before _ (sym k.answer ∙ t) (k.loaded t) _ c.follows-kept.ensures
+    ready-next (venue_from s.args.venue.now) s.args.before _ (sym k.answer ∙ t) (k.loaded t) _ c.follows-kept.ensures
 
 pub load-bytes-ready-spec : {M : Type 1} → statement M
 load-bytes-ready-spec =

@@ -4,10 +4,10 @@ use mathlib.Core.Bool.{◌&&◌}
 use native.Mathlib.Omega.{arith}
 use borrow.Author.Tests.{not-true, not-false}
 use Rattle.rules.specs.Base.{all}
-use Rattle.rules.specs.Sound.{apart, leggingsSound, idsDistinct}
+use Rattle.rules.specs.Sound.{apart, leggings_sound, ids_distinct}
 use Rattle.rules.proofs.Tests.{and_in}
-use Rattle.places.specs.Layout.{venueOf}
-use Rattle.soundness.specs.Checked.{onIncrements, eight}
+use Rattle.places.specs.Layout.{venue_of}
+use Rattle.soundness.specs.Checked.{on_increments, eight}
 use Rattle.venue_reader.proofs.Passes.{out_of_range, out-of-last, first-fails, second-fails, last-decides}
 use Rattle.soundness.proofs.CheckedLaws.{orders-are}
 use borrow.Author.Rules.{rules}
@@ -18,23 +18,23 @@ on-increments-requires : tie.Need-on-increments-requires
 on-increments-requires c κs = let s = c.before in record { whole = s.requires.whole; figures = s.requires.dense.right.marked.figures }
 
 returns : tie.Need-returns
-returns c = let b = c.before.before.before.args.numbers.now in let v = venueOf b in first-fails (onIncrements v && idsDistinct v)
-    (all (apart v) eight) (leggingsSound v 0 v.legging)
-    (out_of_range (onIncrements v) (idsDistinct v) (sym c.before.on-increments.ensures ∙ not-true _ c.if1.true)) ∙ orders-are b
+returns c = let b = c.before.before.before.args.numbers.now in let v = venue_of b in first-fails (on_increments v && ids_distinct v)
+    (all (apart v) eight) (leggings_sound v 0 v.legging)
+    (out_of_range (on_increments v) (ids_distinct v) (sym c.before.on-increments.ensures ∙ not-true _ c.if1.true)) ∙ orders-are b
     (omega (arith, c.before.before.shared-slice-known.given 778))
 
 returns-2 : tie.Need-returns-2
-returns-2 c = let b = c.before.before.before.before.before.args.numbers.now in let v = venueOf b in first-fails (onIncrements v && idsDistinct v)
-    (all (apart v) eight) (leggingsSound v 0 v.legging)
-    (out-of-last (onIncrements v) (idsDistinct v) (sym c.before.ids-distinct.ensures ∙ not-true _ c.if2.true)) ∙ orders-are b
+returns-2 c = let b = c.before.before.before.before.before.args.numbers.now in let v = venue_of b in first-fails (on_increments v && ids_distinct v)
+    (all (apart v) eight) (leggings_sound v 0 v.legging)
+    (out-of-last (on_increments v) (ids_distinct v) (sym c.before.ids-distinct.ensures ∙ not-true _ c.if2.true)) ∙ orders-are b
     (omega (arith, c.before.before.before.before.shared-slice-known.given 778))
 
 all-apart-requires : tie.Need-all-apart-requires
 all-apart-requires c κs = let s = c.before.before.before.before.before in record { whole = s.requires.whole; right = s.requires.dense.right }
 
 returns-3 : tie.Need-returns-3
-returns-3 c = let b = c.before.before.before.before.before.before.before.args.numbers.now in let v = venueOf b in
-    second-fails (onIncrements v && idsDistinct v) (all (apart v) eight) (leggingsSound v 0 v.legging)
+returns-3 c = let b = c.before.before.before.before.before.before.before.args.numbers.now in let v = venue_of b in
+    second-fails (on_increments v && ids_distinct v) (all (apart v) eight) (leggings_sound v 0 v.legging)
     (sym c.before.all_apart.ensures ∙ not-true _ c.if3.true) ∙ orders-are b
     (omega (arith, c.before.before.before.before.before.before.shared-slice-known.given 778))
 
@@ -46,9 +46,9 @@ leggings-sound-requires c κs = let s = c.before.before.before.before.before.bef
     record { whole = s.requires.whole; grid = c.levels.ensures; figures = s.requires.dense.right.marked.figures }
 
 returns-4 : tie.Need-returns-4
-returns-4 c = let b = c.before.before.before.before.before.before.before.before.before.args.numbers.now in let v = venueOf b in
-    c.leggings-sound.ensures ∙ last-decides (onIncrements v && idsDistinct v) (all (apart v) eight) (leggingsSound v 0 v.legging)
-    (and_in (onIncrements v) (idsDistinct v)
+returns-4 c = let b = c.before.before.before.before.before.before.before.before.before.args.numbers.now in let v = venue_of b in
+    c.leggings-sound.ensures ∙ last-decides (on_increments v && ids_distinct v) (all (apart v) eight) (leggings_sound v 0 v.legging)
+    (and_in (on_increments v) (ids_distinct v)
     (sym c.before.before.before.before.before.before.before.on-increments.ensures ∙ not-false _
     c.before.before.before.before.before.before.if1.false)
     (sym c.before.before.before.before.before.ids-distinct.ensures ∙ not-false _ c.before.before.before.before.if2.false))

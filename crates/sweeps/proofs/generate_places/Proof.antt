@@ -3,27 +3,27 @@ use mathlib.Core.Path.{sym, ◌∙◌}
 use Prim.Native.Nat.{◌+◌, ◌-◌}
 use native.Mathlib.Omega.{arith}
 use Rattle.rules.specs.Generation.{generate}
-use Rattle.rules.specs.Complex.{eachOf}
-use Rattle.places.specs.Layout.{venueOf}
+use Rattle.rules.specs.Complex.{each_of}
+use Rattle.places.specs.Layout.{venue_of}
 use Rattle.places.proofs.Parts.{complexes-few}
 use Rattle.removal.proofs.Loops.{Doing, doing-start, doing-turn, doing_end, doing-room}
-use Rattle.sweeps.specs.Round.{placesFrom}
-use Rattle.sweeps.proofs.RoundLaws.{eachOf-none, eachOf-same, eachOf-turn}
+use Rattle.sweeps.specs.Round.{places_from}
+use Rattle.sweeps.proofs.RoundLaws.{each_of-none, each_of-same, each_of-turn}
 use Rattle.sweeps.proofs.generate_places.Statement.{statement}
 use Rattle.sweeps.proofs.generate_places.Tie as tie
 
 abbrev invariant-loop : tie.invariant-loop
 invariant-loop b₀ number first count out₀ at pos₀ k₀ b out pos k =
-    Doing (eachOf (generate number) (placesFrom first count) (venueOf b₀)) (eachOf (generate number) (placesFrom (first + k) (count - k))) b₀ out₀ at b out pos
+    Doing (each_of (generate number) (places_from first count) (venue_of b₀)) (each_of (generate number) (places_from (first + k) (count - k))) b₀ out₀ at b out pos
 
 abbrev decreases-loop : tie.decreases-loop
 decreases-loop b₀ number first count out₀ at pos₀ k₀ b out pos k = count - k
 
 loop-holds : tie.Need-loop-init invariant-loop decreases-loop
-loop-holds c = doing-start _ _ _ _ _ c.before.before.requires.whole (eachOf-same (generate _) _ _ _ _ _ (omega arith) (omega arith))
+loop-holds c = doing-start _ _ _ _ _ c.before.before.requires.whole (each_of-same (generate _) _ _ _ _ _ (omega arith) (omega arith))
 
 add-generate-order : tie.Need-overflow-add-generate-order invariant-loop decreases-loop
-add-generate-order c = let s = c.before.before.before.before.before in omega (arith, c.before.loop-test.true, s.requires.inUse, complexes-few s.args.numbers.now)
+add-generate-order c = let s = c.before.before.before.before.before in omega (arith, c.before.loop-test.true, s.requires.in_use, complexes-few s.args.numbers.now)
 
 generate-order-requires : tie.Need-generate-order-requires invariant-loop decreases-loop
 generate-order-requires c κs =
@@ -33,7 +33,7 @@ generate-order-requires c κs =
 
 add-k : tie.Need-overflow-add-k invariant-loop decreases-loop
 add-k c = let s = c.before.before.before.before.before.before.before.before.before.before.before in
-    omega (arith, c.before.before.before.before.before.before.before.loop-test.true, s.requires.inUse, complexes-few s.args.numbers.now)
+    omega (arith, c.before.before.before.before.before.before.before.loop-test.true, s.requires.in_use, complexes-few s.args.numbers.now)
 
 loop-less : tie.Need-loop-smaller invariant-loop decreases-loop
 loop-less c = omega (arith, c.before.before.before.before.before.before.before.loop-test.true)
@@ -42,7 +42,7 @@ loop-again : tie.Need-loop-preserved invariant-loop decreases-loop
 loop-again c =
     let w = c.before.before.before.before.generate-order in
     doing-turn c.before.before.before.before.before.before.before.before.loop.invariant _ _ _ _ _
-    (eachOf-turn (generate _) _ _ _ _ _ (omega (arith, c.before.before.before.before.before.before.before.loop-test.true))
+    (each_of-turn (generate _) _ _ _ _ _ (omega (arith, c.before.before.before.before.before.before.before.loop-test.true))
     (omega arith)) w.auto.0 w.ensures.0 w.ensures.1
 
 same_length : tie.Need-same-length invariant-loop decreases-loop
@@ -52,7 +52,7 @@ same-length-2 : tie.Need-same-length-2 invariant-loop decreases-loop
 same-length-2 c = doing-room c.before.loop.invariant
 
 returns : tie.Need-returns invariant-loop decreases-loop
-returns c = let l = c.before.loop.invariant in (doing_end l (eachOf-none (generate _) _ _ _ (omega (arith, c.loop-test.false))), l.counts)
+returns c = let l = c.before.loop.invariant in (doing_end l (each_of-none (generate _) _ _ _ (omega (arith, c.loop-test.false))), l.counts)
 
 pub generate-places-spec : {M : Type 1} → statement M
 generate-places-spec =

@@ -2,10 +2,10 @@
 use mathlib.Core.Path.{sym, subst, ◌∙◌}
 use native.Mathlib.Omega.{arith}
 use Rattle.places.proofs.Parts.{complexes-few}
-use Rattle.sweeps.specs.Round.{roundPlaces}
+use Rattle.sweeps.specs.Round.{round_places}
 use Rattle.places.proofs.Beside.{counts-on}
 use Rattle.sweeps.proofs.RoundLaws.{round-examined, limited-law}
-use Rattle.places.specs.Layout.{venueOf}
+use Rattle.places.specs.Layout.{venue_of}
 use Rattle.settling.specs.Asked.{AllStanding}
 use Rattle.settling.proofs.Frames.{reached-kept}
 use Rattle.sweeps.proofs.SweepLaws.{works-standing}
@@ -43,7 +43,7 @@ settle-written-requires c κs =
       whole = w.auto.0 ∙ p.auto.0 ∙ s.pre.rising.whole;
       right = w.ensures.1.right (p.ensures.1.right s.pre.rising.dense.right);
       stand = λ z h. works-standing _ _ _ _ _ _ _
-          (subst AllStanding (sym p.ensures.0) (reached-kept (venueOf s.args.numbers.now) _ s.pre.stand)) w.ensures.0 z h;
+          (subst AllStanding (sym p.ensures.0) (reached-kept (venue_of s.args.numbers.now) _ s.pre.stand)) w.ensures.0 z h;
     }
 
 generate-round-requires : tie.Need-generate-round-requires
@@ -69,7 +69,7 @@ returns c =
     let p = c.before.before.before.before.before.before.before.before.before.before.before.before.before.before.before.before.before.before.before.before.before.before.before.before.before.before.before.put-reached.ensures in
     let r = c.before.before.before.before.before.before.before.before.before.before.before.before.before.before.before.before.before.before.before.before.before.before.before.before.before.before.before.before.before.before.before.before.round-of in
     let n = round-examined _ _ r.result r.ensures.0 in (
-      limited-law _ _ _ _ (roundPlaces r.result) _ _ _ _ _ _ _ _ _ _ _ _ _ _ _ r.ensures.0 n
+      limited-law _ _ _ _ (round_places r.result) _ _ _ _ _ _ _ _ _ _ _ _ _ _ _ r.ensures.0 n
           c.before.before.before.before.before.before.before.before.before.before.before.before.before.before.before.before.before.before.before.before.before.before.before.before.before.before.before.before.before.last-looked.ensures p.0
           c.before.before.before.before.before.before.before.before.before.before.before.before.before.before.before.before.before.before.before.before.before.before.before.emit-looked.ensures w.0 x.0 g.0,
       (counts-on _ _ _ (counts-on _ _ _ (counts-on _ _ _ p.1 w.1) x.1) g.1, n),

@@ -3,13 +3,13 @@ use mathlib.Core.Path.{ap}
 use Prim.Native.Nat.{ℕ, ◌-◌, ◌≤◌, ◌<◌}
 use native.Mathlib.Omega.{arith}
 use Rattle.rules.specs.declared.Complex.{Complex}
-use Rattle.places.specs.Layout.{complexIn}
+use Rattle.places.specs.Layout.{complex_in}
 use Rattle.sweeps.proofs.RoundLaws.{low-more, going-round}
 use Rattle.sweeps.proofs.round_start.Statement.{statement}
 use Rattle.sweeps.proofs.round_start.Tie as tie
 
 abbrev invariant-loop : tie.invariant-loop
-invariant-loop b used reached k₀ k = (k ≤ used) × ((i : ℕ) → i < k → (complexIn b i).id ≤ reached)
+invariant-loop b used reached k₀ k = (k ≤ used) × ((i : ℕ) → i < k → (complex_in b i).id ≤ reached)
 
 abbrev decreases-loop : tie.decreases-loop
 decreases-loop b used reached k₀ k = used - k

@@ -1,7 +1,7 @@
 -- `trades::cancel_complex` meets its contract.
 use mathlib.Core.Path.{sym, ◌∙◌}
 use native.Mathlib.Omega.{arith}
-use Rattle.places.specs.Layout.{venueOf}
+use Rattle.places.specs.Layout.{venue_of}
 use Rattle.places.proofs.Parts.{complexes-few, complex-at}
 use Rattle.places.proofs.Beside.{counts-on}
 use Rattle.trades.proofs.HitsLaws.{cancel-complex-law}
@@ -19,8 +19,8 @@ returns c =
     let p13 = p9.before.before.before.before in
     let p15 = p13.before.before in
     let p19 = p15.before.before.before.before in (
-      cancel-complex-law _ (venueOf p19.args.numbers.now) _ _ _ _ _ _ _ _ _
-          (p15.complex-at.ensures ∙ sym (complex-at p19.args.numbers.now p19.args.i p19.requires.inUse)) p13.fill-complex.ensures.0
+      cancel-complex-law _ (venue_of p19.args.numbers.now) _ _ _ _ _ _ _ _ _
+          (p15.complex-at.ensures ∙ sym (complex-at p19.args.numbers.now p19.args.i p19.requires.in_use)) p13.fill-complex.ensures.0
           p9.emit-cancelled.ensures p4.remove-of.ensures.0,
       counts-on _ _ _ p13.fill-complex.ensures.1 p4.remove-of.ensures.1,
     )

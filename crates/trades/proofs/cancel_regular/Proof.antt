@@ -1,7 +1,7 @@
 -- `trades::cancel_regular` meets its contract.
 use mathlib.Core.Path.{sym, ◌∙◌}
 use native.Mathlib.Omega.{arith}
-use Rattle.places.specs.Layout.{venueOf}
+use Rattle.places.specs.Layout.{venue_of}
 use Rattle.places.proofs.Parts.{regulars-few, regular-at}
 use Rattle.trades.proofs.HitsLaws.{cancel-law}
 use borrow.Author.Rules.{rules}
@@ -17,7 +17,7 @@ returns c =
     let p6 = p2.before.before.before.before in
     let p8 = p6.before.before in
     let p12 = p8.before.before.before.before in (
-      cancel-law _ (venueOf p12.args.numbers.now) _ _ _ _ _ _ (p8.regular-at.ensures ∙ sym (regular-at p12.args.numbers.now p12.args.i p12.requires.inUse))
+      cancel-law _ (venue_of p12.args.numbers.now) _ _ _ _ _ _ (p8.regular-at.ensures ∙ sym (regular-at p12.args.numbers.now p12.args.i p12.requires.in_use))
           p6.fill-order.ensures.0 p2.emit-cancelled.ensures,
       p6.fill-order.ensures.1,
     )

@@ -2,7 +2,7 @@
 use mathlib.Core.Path.{sym, ◌∙◌}
 use native.Mathlib.Omega.{arith}
 use Rattle.rules.proofs.Machine.{back, fits-of}
-use Rattle.places.specs.Layout.{venueOf}
+use Rattle.places.specs.Layout.{venue_of}
 use Rattle.places.proofs.Parts.{regulars-few, regular-at}
 use Rattle.places.proofs.Beside.{counts-on}
 use Rattle.trades.proofs.HitsLaws.{hit-law}
@@ -47,8 +47,8 @@ returns c =
     let p27 = p25.before.before in
     let p31 = p27.before.before.before.before in
     let p = p25.pairing-of in (
-      hit-law _ _ _ (venueOf p31.args.numbers.now) _ _ _ _ _ _ _ _ _ _ _ _ _ _ _ (back (fits-of p.result.net (omega (arith, p.ensures.1))))
-          (p27.regular-at.ensures ∙ sym (regular-at p31.args.numbers.now p31.args.i p31.requires.inUse)) p.ensures.0 p23.fill-order.ensures.0
+      hit-law _ _ _ (venue_of p31.args.numbers.now) _ _ _ _ _ _ _ _ _ _ _ _ _ _ _ (back (fits-of p.result.net (omega (arith, p.ensures.1))))
+          (p27.regular-at.ensures ∙ sym (regular-at p31.args.numbers.now p31.args.i p31.requires.in_use)) p.ensures.0 p23.fill-order.ensures.0
           p19.emit-trade.ensures p14.trade-at-price.ensures.0 p8.place-or-end.ensures p4.pair-off.ensures.0,
       counts-on _ _ _ (counts-on _ _ _ p23.fill-order.ensures.1 p14.trade-at-price.ensures.1) p4.pair-off.ensures.1,
     )

@@ -3,7 +3,7 @@ use mathlib.Core.Path.{ap}
 use lib.IntN.{nat_abs}
 use native.Mathlib.Omega.{arith}
 use Rattle.rules.proofs.Machine.{back}
-use Rattle.places.specs.Layout.{venueOf}
+use Rattle.places.specs.Layout.{venue_of}
 use Rattle.prices.proofs.Prices.{parent-legs}
 use Rattle.trades.proofs.HitsLaws.{leg-in, opposite-in, pairing-law}
 use borrow.Author.Rules.{rules}
@@ -28,7 +28,7 @@ returns c =
     let p6 = p5.before in
     let p8 = p6.before.before in
     let q = back {z = c.net-of.result} (record { sfits = c.net-of.type-inv }) in (
-      pairing-law (venueOf p8.args.numbers.now) p8.args.l p8.args.series p8.args.side _ _ _ _ _ _ _ p6.parent_of.ensures
+      pairing-law (venue_of p8.args.numbers.now) p8.args.l p8.args.series p8.args.side _ _ _ _ _ _ _ p6.parent_of.ensures
           p5.other-leg.ensures p4.opposite-of.ensures p2.clear-price.ensures c.before.opposite-of2.ensures c.net-of.ensures.0 q,
       omega (arith, ap nat_abs q, c.net-of.ensures.1),
     )

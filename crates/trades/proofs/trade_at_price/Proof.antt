@@ -48,7 +48,7 @@ trade-with-requires c κs =
     let p10 = p9.before in
     let p11 = p10.before in record {
       whole = p10.loop.invariant.whole;
-      inUse = taking-used p10.loop.invariant _ _ _ _ p9.loop-test.true p11.opposite-of.ensures (sym p5.found.given.1 ∙ p7.first-for.ensures)
+      in_use = taking-used p10.loop.invariant _ _ _ _ p9.loop-test.true p11.opposite-of.ensures (sym p5.found.given.1 ∙ p7.first-for.ensures)
           _ p3.shown-size.ensures p2.at_most.ensures;
     }
 

@@ -4,39 +4,39 @@ use Prim.Native.Nat.{◌-◌, ◌≤◌}
 use native.Mathlib.Omega.{arith}
 use lib.ListN.{length}
 use borrow.Author.Rules.{rules}
-use Rattle.rules.specs.Words.{noGenerations}
-use Rattle.places.specs.Layout.{upto, inUse}
+use Rattle.rules.specs.Words.{no_generations}
+use Rattle.places.specs.Layout.{upto, in_use}
 use Rattle.places.proofs.Tables.{used-length, used-next, used-done, whole}
-use Rattle.venue_bytes.specs.Held.{generationsAt, generationsFrom, row_at, venueFrom}
+use Rattle.venue_bytes.specs.Held.{generations_at, generations_from, row_at, venue_from}
 use Rattle.venue_bytes.proofs.Rows.{table_at}
 use Rattle.venue_bytes.proofs.all_generations_from.Statement.{statement}
 use Rattle.venue_bytes.proofs.all_generations_from.Tie as tie
 
 abbrev invariant-loop : tie.invariant-loop
-invariant-loop bytes r₀ i₀ r i = (i ≤ 8) × (r ≡ inUse (row_at generationsFrom generationsAt 80 bytes) noGenerations i 8)
+invariant-loop bytes r₀ i₀ r i = (i ≤ 8) × (r ≡ in_use (row_at generations_from generations_at 80 bytes) no_generations i 8)
 
 abbrev decreases-loop : tie.decreases-loop
 decreases-loop bytes r₀ i₀ r i = 8 - i
 
 loop-holds : tie.Need-loop-init invariant-loop decreases-loop
-unfolding inUse upto
+unfolding in_use upto
 loop-holds c = (omega arith, refl)
 
 array-set-from-r : tie.Need-array-set-from-r invariant-loop decreases-loop
 array-set-from-r c = let h = c.before.before in let z = ap length h.loop.invariant.1 in
-    let y = used-length (row_at generationsFrom generationsAt 80 h.before.before.args.bytes.now) noGenerations h.loop.i 8 (omega arith) in omega arith
+    let y = used-length (row_at generations_from generations_at 80 h.before.before.args.bytes.now) no_generations h.loop.i 8 (omega arith) in omega arith
 
 loop-again : tie.Need-loop-preserved invariant-loop decreases-loop
-unfolding venueFrom
+unfolding venue_from
 loop-again c = let h = c.before.before in (
   omega arith,
   used-next _ _ _ 8 _ _ (omega arith) h.loop.invariant.1
-      (c.generations-at.ensures ∙ sym (table_at (row_at generationsFrom generationsAt 80 h.before.before.args.bytes.now) noGenerations 8 h.loop.i (omega arith))),
+      (c.generations-at.ensures ∙ sym (table_at (row_at generations_from generations_at 80 h.before.before.args.bytes.now) no_generations 8 h.loop.i (omega arith))),
 )
 
 returns : tie.Need-returns invariant-loop decreases-loop
-unfolding venueFrom
-returns c = used-done _ _ _ _ 8 _ (omega arith) c.before.loop.invariant.1 ∙ whole (row_at generationsFrom generationsAt 80 c.before.before.before.args.bytes.now) noGenerations 8
+unfolding venue_from
+returns c = used-done _ _ _ _ 8 _ (omega arith) c.before.loop.invariant.1 ∙ whole (row_at generations_from generations_at 80 c.before.before.before.args.bytes.now) no_generations 8
 
 pub all-generations-from-spec : {M : Type 1} → statement M
 all-generations-from-spec =

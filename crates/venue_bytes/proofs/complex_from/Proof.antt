@@ -1,13 +1,13 @@
 -- `venue_bytes::complex_from` meets its contract.
 use mir.Syntax.{w32}
 use mir.ValLaws.{to_z-of_z}
-use Rattle.venue_bytes.specs.Held.{complexFrom}
+use Rattle.venue_bytes.specs.Held.{complex_from}
 use borrow.Author.Rules.{rules}
 use Rattle.venue_bytes.proofs.complex_from.Statement.{statement}
 use Rattle.venue_bytes.proofs.complex_from.Tie as tie
 
 returns : tie.Need-returns
-unfolding complexFrom
+unfolding complex_from
 returns c =
     rw (
       to_z-of_z w32 c.before.before.before.as-signed.result (record { sfits = c.before.before.before.as-signed.type-inv }),

@@ -1,11 +1,11 @@
 -- `venue_bytes::edition_from` meets its contract.
-use Rattle.venue_bytes.specs.Held.{editionFrom}
+use Rattle.venue_bytes.specs.Held.{edition_from}
 use borrow.Author.Rules.{rules}
 use Rattle.venue_bytes.proofs.edition_from.Statement.{statement}
 use Rattle.venue_bytes.proofs.edition_from.Tie as tie
 
 returns : tie.Need-returns
-unfolding editionFrom
+unfolding edition_from
 returns c = rw (c.before.before.before.word_at.ensures, c.before.before.word-at2.ensures, c.before.byte_at.ensures, c.byte-at2.ensures)
 
 pub edition-from-spec : {M : Type 1} → statement M

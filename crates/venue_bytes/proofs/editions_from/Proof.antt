@@ -4,39 +4,39 @@ use Prim.Native.Nat.{◌-◌, ◌≤◌}
 use native.Mathlib.Omega.{arith}
 use lib.ListN.{length}
 use borrow.Author.Rules.{rules}
-use Rattle.rules.specs.Words.{noEdition}
-use Rattle.places.specs.Layout.{upto, inUse}
+use Rattle.rules.specs.Words.{no_edition}
+use Rattle.places.specs.Layout.{upto, in_use}
 use Rattle.places.proofs.Tables.{used-length, used-next, used-done, whole}
-use Rattle.venue_bytes.specs.Held.{editionsAt, editionFrom, row_at, venueFrom}
+use Rattle.venue_bytes.specs.Held.{editions_at, edition_from, row_at, venue_from}
 use Rattle.venue_bytes.proofs.Rows.{table_at}
 use Rattle.venue_bytes.proofs.editions_from.Statement.{statement}
 use Rattle.venue_bytes.proofs.editions_from.Tie as tie
 
 abbrev invariant-loop : tie.invariant-loop
-invariant-loop bytes r₀ i₀ r i = (i ≤ 32) × (r ≡ inUse (row_at editionFrom editionsAt 10 bytes) noEdition i 32)
+invariant-loop bytes r₀ i₀ r i = (i ≤ 32) × (r ≡ in_use (row_at edition_from editions_at 10 bytes) no_edition i 32)
 
 abbrev decreases-loop : tie.decreases-loop
 decreases-loop bytes r₀ i₀ r i = 32 - i
 
 loop-holds : tie.Need-loop-init invariant-loop decreases-loop
-unfolding inUse upto
+unfolding in_use upto
 loop-holds c = (omega arith, refl)
 
 array-set-from-r : tie.Need-array-set-from-r invariant-loop decreases-loop
 array-set-from-r c = let h = c.before.before in let z = ap length h.loop.invariant.1 in
-    let y = used-length (row_at editionFrom editionsAt 10 h.before.before.args.bytes.now) noEdition h.loop.i 32 (omega arith) in omega arith
+    let y = used-length (row_at edition_from editions_at 10 h.before.before.args.bytes.now) no_edition h.loop.i 32 (omega arith) in omega arith
 
 loop-again : tie.Need-loop-preserved invariant-loop decreases-loop
-unfolding venueFrom
+unfolding venue_from
 loop-again c = let h = c.before.before in (
   omega arith,
   used-next _ _ _ 32 _ _ (omega arith) h.loop.invariant.1
-      (c.edition-at.ensures ∙ sym (table_at (row_at editionFrom editionsAt 10 h.before.before.args.bytes.now) noEdition 32 h.loop.i (omega arith))),
+      (c.edition-at.ensures ∙ sym (table_at (row_at edition_from editions_at 10 h.before.before.args.bytes.now) no_edition 32 h.loop.i (omega arith))),
 )
 
 returns : tie.Need-returns invariant-loop decreases-loop
-unfolding venueFrom
-returns c = used-done _ _ _ _ 32 _ (omega arith) c.before.loop.invariant.1 ∙ whole (row_at editionFrom editionsAt 10 c.before.before.before.args.bytes.now) noEdition 32
+unfolding venue_from
+returns c = used-done _ _ _ _ 32 _ (omega arith) c.before.loop.invariant.1 ∙ whole (row_at edition_from editions_at 10 c.before.before.before.args.bytes.now) no_edition 32
 
 pub editions-from-spec : {M : Type 1} → statement M
 editions-from-spec =

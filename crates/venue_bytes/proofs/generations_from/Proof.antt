@@ -6,9 +6,9 @@ use native.Mathlib.Omega.{arith}
 use lib.ListN.{length}
 use borrow.Author.Rules.{rules}
 use Rattle.rules.specs.Bytes.{u32_at}
-use Rattle.places.specs.Layout.{upto, inUse}
+use Rattle.places.specs.Layout.{upto, in_use}
 use Rattle.places.proofs.Tables.{used-length, used-next, used-done, whole}
-use Rattle.venue_bytes.specs.Held.{generationsFrom}
+use Rattle.venue_bytes.specs.Held.{generations_from}
 use Rattle.venue_bytes.proofs.generations_from.Statement.{statement}
 use Rattle.venue_bytes.proofs.generations_from.Tie as tie
 
@@ -17,13 +17,13 @@ abbrev at : List ℕ → ℕ → ℕ
 at row k = u32_at row (4 * k)
 
 abbrev invariant-loop : tie.invariant-loop
-invariant-loop row messages₀ k₀ messages k = (k ≤ 20) × (messages ≡ inUse (at row) 0 k 20)
+invariant-loop row messages₀ k₀ messages k = (k ≤ 20) × (messages ≡ in_use (at row) 0 k 20)
 
 abbrev decreases-loop : tie.decreases-loop
 decreases-loop row messages₀ k₀ messages k = 20 - k
 
 loop-holds : tie.Need-loop-init invariant-loop decreases-loop
-unfolding inUse upto
+unfolding in_use upto
 loop-holds c = (omega arith, refl)
 
 array-write-messages : tie.Need-array-write-messages invariant-loop decreases-loop
@@ -33,7 +33,7 @@ loop-again : tie.Need-loop-preserved invariant-loop decreases-loop
 loop-again c = (omega arith, used-next _ _ _ 20 _ _ (omega arith) c.before.before.loop.invariant.1 c.word_at.ensures)
 
 returns : tie.Need-returns invariant-loop decreases-loop
-unfolding generationsFrom
+unfolding generations_from
 returns c =
     ap (λ (l : List ℕ). record { messages = l })
     (used-done _ _ _ _ 20 _ (omega arith) c.before.loop.invariant.1 ∙ whole (at c.before.before.before.args.row.now) 0 20)

@@ -4,39 +4,39 @@ use Prim.Native.Nat.{◌-◌, ◌≤◌}
 use native.Mathlib.Omega.{arith}
 use lib.ListN.{length}
 use borrow.Author.Rules.{rules}
-use Rattle.rules.specs.Words.{noLegging}
-use Rattle.places.specs.Layout.{upto, inUse}
+use Rattle.rules.specs.Words.{no_legging}
+use Rattle.places.specs.Layout.{upto, in_use}
 use Rattle.places.proofs.Tables.{used-length, used-next, used-done, whole}
-use Rattle.venue_bytes.specs.Held.{leggingFrom, row_at, venueFrom}
+use Rattle.venue_bytes.specs.Held.{legging_from, row_at, venue_from}
 use Rattle.venue_bytes.proofs.Rows.{table_at}
 use Rattle.venue_bytes.proofs.leggings_from.Statement.{statement}
 use Rattle.venue_bytes.proofs.leggings_from.Tie as tie
 
 abbrev invariant-loop : tie.invariant-loop
-invariant-loop bytes r₀ i₀ r i = (i ≤ 16) × (r ≡ inUse (row_at leggingFrom 2336 12 bytes) noLegging i 16)
+invariant-loop bytes r₀ i₀ r i = (i ≤ 16) × (r ≡ in_use (row_at legging_from 2336 12 bytes) no_legging i 16)
 
 abbrev decreases-loop : tie.decreases-loop
 decreases-loop bytes r₀ i₀ r i = 16 - i
 
 loop-holds : tie.Need-loop-init invariant-loop decreases-loop
-unfolding inUse upto
+unfolding in_use upto
 loop-holds c = (omega arith, refl)
 
 array-set-from-r : tie.Need-array-set-from-r invariant-loop decreases-loop
 array-set-from-r c = let h = c.before.before in let z = ap length h.loop.invariant.1 in
-    let y = used-length (row_at leggingFrom 2336 12 h.before.before.args.bytes.now) noLegging h.loop.i 16 (omega arith) in omega arith
+    let y = used-length (row_at legging_from 2336 12 h.before.before.args.bytes.now) no_legging h.loop.i 16 (omega arith) in omega arith
 
 loop-again : tie.Need-loop-preserved invariant-loop decreases-loop
-unfolding venueFrom
+unfolding venue_from
 loop-again c = let h = c.before.before in (
   omega arith,
   used-next _ _ _ 16 _ _ (omega arith) h.loop.invariant.1
-      (c.legging-at.ensures ∙ sym (table_at (row_at leggingFrom 2336 12 h.before.before.args.bytes.now) noLegging 16 h.loop.i (omega arith))),
+      (c.legging-at.ensures ∙ sym (table_at (row_at legging_from 2336 12 h.before.before.args.bytes.now) no_legging 16 h.loop.i (omega arith))),
 )
 
 returns : tie.Need-returns invariant-loop decreases-loop
-unfolding venueFrom
-returns c = used-done _ _ _ _ 16 _ (omega arith) c.before.loop.invariant.1 ∙ whole (row_at leggingFrom 2336 12 c.before.before.before.args.bytes.now) noLegging 16
+unfolding venue_from
+returns c = used-done _ _ _ _ 16 _ (omega arith) c.before.loop.invariant.1 ∙ whole (row_at legging_from 2336 12 c.before.before.before.args.bytes.now) no_legging 16
 
 pub leggings-from-spec : {M : Type 1} → statement M
 leggings-from-spec =

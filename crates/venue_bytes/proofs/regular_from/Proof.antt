@@ -1,11 +1,11 @@
 -- `venue_bytes::regular_from` meets its contract.
-use Rattle.venue_bytes.specs.Held.{regularFrom}
+use Rattle.venue_bytes.specs.Held.{regular_from}
 use borrow.Author.Rules.{rules}
 use Rattle.venue_bytes.proofs.regular_from.Statement.{statement}
 use Rattle.venue_bytes.proofs.regular_from.Tie as tie
 
 returns : tie.Need-returns
-unfolding regularFrom
+unfolding regular_from
 returns c =
     rw (
       c.before.before.before.before.before.before.word_at.ensures,

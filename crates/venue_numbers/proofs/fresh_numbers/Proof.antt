@@ -4,12 +4,12 @@ use Prim.Native.Nat.{◌-◌, ◌≤◌}
 use native.Mathlib.Omega.{arith}
 use lib.ListN.{length}
 use borrow.Author.Rules.{rules}
-use Rattle.venue_numbers.proofs.FreshNumbers.{openTo, open-length, open-first, open_next, fresh-loaded}
+use Rattle.venue_numbers.proofs.FreshNumbers.{open_to, open-length, open-first, open_next, fresh-loaded}
 use Rattle.venue_numbers.proofs.fresh_numbers.Statement.{statement}
 use Rattle.venue_numbers.proofs.fresh_numbers.Tie as tie
 
 abbrev invariant-loop : tie.invariant-loop
-invariant-loop b₀ s₀ b s = (s ≤ 8) × (b ≡ openTo s)
+invariant-loop b₀ s₀ b s = (s ≤ 8) × (b ≡ open_to s)
 
 abbrev decreases-loop : tie.decreases-loop
 decreases-loop b₀ s₀ b s = 8 - s

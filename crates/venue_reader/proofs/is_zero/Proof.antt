@@ -4,13 +4,13 @@ use mathlib.Core.Bool.{◌&&◌}
 use Prim.Native.Nat.{◌-◌}
 use lib.Dec.{eqb}
 use borrow.Author.Rules.{rules}
-use Rattle.venue_reader.specs.Checked.{zeroBytes}
-use Rattle.venue_reader.proofs.Zero.{zerosFrom, zeros-first, zeros-next, zeros-last}
+use Rattle.venue_reader.specs.Checked.{zero_bytes}
+use Rattle.venue_reader.proofs.Zero.{zeros_from, zeros-first, zeros-next, zeros-last}
 use Rattle.venue_reader.proofs.is_zero.Statement.{statement}
 use Rattle.venue_reader.proofs.is_zero.Tie as tie
 
 abbrev invariant-loop : tie.invariant-loop
-invariant-loop bytes from to bits₀ k₀ bits k = (eqb bits 0 && zerosFrom bytes k (to - k)) ≡ zeroBytes bytes from to
+invariant-loop bytes from to bits₀ k₀ bits k = (eqb bits 0 && zeros_from bytes k (to - k)) ≡ zero_bytes bytes from to
 
 abbrev decreases-loop : tie.decreases-loop
 decreases-loop bytes from to bits₀ k₀ bits k = to - k

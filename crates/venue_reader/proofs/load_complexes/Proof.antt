@@ -5,8 +5,8 @@ use native.Mathlib.Omega.{arith}
 use lib.ListN.{length, length-set, drop}
 use borrow.Author.Tests.{not-true, not-false}
 use Rattle.places.specs.Layout.{size}
-use Rattle.venue_bytes.specs.Held.{venueFrom}
-use Rattle.venue_reader.specs.Checked.{complexesFrom}
+use Rattle.venue_bytes.specs.Held.{venue_from}
+use Rattle.venue_reader.specs.Checked.{complexes_from}
 use Rattle.venue_reader.proofs.Laid.{LayingComplexes, complexes-first}
 use Rattle.venue_reader.proofs.Told.{complexes-long, complexes-all, complexes-free, complexes-low, complexes-out, complexes-above, complexes-more}
 use borrow.Author.Rules.{rules}
@@ -15,8 +15,8 @@ use Rattle.venue_reader.proofs.load_complexes.Tie as tie
 
 abbrev invariant-loop : tie.invariant-loop
 invariant-loop numbers₀ bytes last low₀ i₀ numbers low i =
-    (i ≤ 32) × (length numbers ≡ size) × LayingComplexes numbers₀ numbers (venueFrom bytes).complex i
-    × (complexesFrom last low (drop i (venueFrom bytes).complex) ≡ complexesFrom last 0 (venueFrom bytes).complex)
+    (i ≤ 32) × (length numbers ≡ size) × LayingComplexes numbers₀ numbers (venue_from bytes).complex i
+    × (complexes_from last low (drop i (venue_from bytes).complex) ≡ complexes_from last 0 (venue_from bytes).complex)
 
 abbrev decreases-loop : tie.decreases-loop
 decreases-loop numbers₀ bytes last low₀ i₀ numbers low i = 32 - i

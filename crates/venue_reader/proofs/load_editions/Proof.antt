@@ -5,8 +5,8 @@ use native.Mathlib.Omega.{arith}
 use lib.ListN.{length, drop}
 use borrow.Author.Tests.{not-true, not-false}
 use Rattle.places.specs.Layout.{size}
-use Rattle.venue_bytes.specs.Held.{venueFrom}
-use Rattle.venue_reader.specs.Checked.{editionsFrom}
+use Rattle.venue_bytes.specs.Held.{venue_from}
+use Rattle.venue_reader.specs.Checked.{editions_from}
 use Rattle.venue_reader.proofs.Laid.{LayingEditions, editions-first}
 use Rattle.venue_reader.proofs.Told.{editions-long, editions-all, editions-rest, editions-lower, editions-earlier, editions-not, editions-more}
 use borrow.Author.Rules.{rules}
@@ -15,8 +15,8 @@ use Rattle.venue_reader.proofs.load_editions.Tie as tie
 
 abbrev invariant-loop : tie.invariant-loop
 invariant-loop numbers₀ bytes low₀ past₀ i₀ numbers low past i =
-    (i ≤ 32) × (length numbers ≡ size) × LayingEditions numbers₀ numbers (venueFrom bytes).editions i
-    × (editionsFrom low past (drop i (venueFrom bytes).editions) ≡ editionsFrom 0 0 (venueFrom bytes).editions)
+    (i ≤ 32) × (length numbers ≡ size) × LayingEditions numbers₀ numbers (venue_from bytes).editions i
+    × (editions_from low past (drop i (venue_from bytes).editions) ≡ editions_from 0 0 (venue_from bytes).editions)
 
 abbrev decreases-loop : tie.decreases-loop
 decreases-loop numbers₀ bytes low₀ past₀ i₀ numbers low past i = 32 - i

@@ -5,7 +5,7 @@ use native.Mathlib.Omega.{arith}
 use lib.ListN.{length}
 use Rattle.rules.specs.Generation.{placed}
 use Rattle.places.specs.Layout.{size}
-use Rattle.venue_bytes.specs.Held.{venueFrom}
+use Rattle.venue_bytes.specs.Held.{venue_from}
 use Rattle.venue_reader.proofs.Laid.{LoadingLeggings, legging-first, legging-next, legging-last}
 use Rattle.venue_reader.proofs.Told.{leggings-long}
 use borrow.Author.Rules.{rules}
@@ -13,7 +13,7 @@ use Rattle.venue_reader.proofs.load_leggings.Statement.{statement}
 use Rattle.venue_reader.proofs.load_leggings.Tie as tie
 
 abbrev invariant-loop : tie.invariant-loop
-invariant-loop numbers₀ bytes i₀ numbers i = (i ≤ 16) × (length numbers ≡ size) × LoadingLeggings numbers₀ numbers (venueFrom bytes).legging i
+invariant-loop numbers₀ bytes i₀ numbers i = (i ≤ 16) × (length numbers ≡ size) × LoadingLeggings numbers₀ numbers (venue_from bytes).legging i
 
 abbrev decreases-loop : tie.decreases-loop
 decreases-loop numbers₀ bytes i₀ numbers i = 16 - i

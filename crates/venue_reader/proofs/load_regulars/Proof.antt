@@ -5,8 +5,8 @@ use native.Mathlib.Omega.{arith}
 use lib.ListN.{length, length-set, drop}
 use borrow.Author.Tests.{not-true, not-false}
 use Rattle.places.specs.Layout.{size}
-use Rattle.venue_bytes.specs.Held.{venueFrom}
-use Rattle.venue_reader.specs.Checked.{regularsFrom}
+use Rattle.venue_bytes.specs.Held.{venue_from}
+use Rattle.venue_reader.specs.Checked.{regulars_from}
 use Rattle.venue_reader.proofs.Laid.{LayingRegulars, regulars-first}
 use Rattle.venue_reader.proofs.Told.{regulars-long, regulars-all, regulars-free, regulars-low, regulars-not, regulars-more}
 use borrow.Author.Rules.{rules}
@@ -15,8 +15,8 @@ use Rattle.venue_reader.proofs.load_regulars.Tie as tie
 
 abbrev invariant-loop : tie.invariant-loop
 invariant-loop numbers₀ bytes last low₀ i₀ numbers low i =
-    (i ≤ 128) × (length numbers ≡ size) × LayingRegulars numbers₀ numbers (venueFrom bytes).regular i
-    × (regularsFrom last low (drop i (venueFrom bytes).regular) ≡ regularsFrom last 0 (venueFrom bytes).regular)
+    (i ≤ 128) × (length numbers ≡ size) × LayingRegulars numbers₀ numbers (venue_from bytes).regular i
+    × (regulars_from last low (drop i (venue_from bytes).regular) ≡ regulars_from last 0 (venue_from bytes).regular)
 
 abbrev decreases-loop : tie.decreases-loop
 decreases-loop numbers₀ bytes last low₀ i₀ numbers low i = 128 - i

@@ -5,10 +5,10 @@ use native.Mathlib.Omega.{arith}
 use lib.ListN.{length, drop}
 use borrow.Author.Tests.{not-true, not-false}
 use Rattle.rules.specs.Base.{all}
-use Rattle.rules.specs.Words.{notListed}
-use Rattle.rules.specs.Sound.{listedInRange}
+use Rattle.rules.specs.Words.{not_listed}
+use Rattle.rules.specs.Sound.{listed_in_range}
 use Rattle.places.specs.Layout.{size}
-use Rattle.venue_bytes.specs.Held.{venueFrom}
+use Rattle.venue_bytes.specs.Held.{venue_from}
 use Rattle.venue_reader.proofs.Passes.{rest-past, rest-stop, rest-none}
 use Rattle.venue_reader.proofs.Laid.{LoadingSeries, series-first, series-next, series-last}
 use Rattle.venue_reader.proofs.Told.{told-not, told, series-long}
@@ -18,8 +18,8 @@ use Rattle.venue_reader.proofs.load_series.Tie as tie
 
 abbrev invariant-loop : tie.invariant-loop
 invariant-loop numbers₀ bytes i₀ numbers i =
-    (i ≤ 8) × (length numbers ≡ size) × LoadingSeries numbers₀ numbers (venueFrom bytes).series i
-    × (all listedInRange (drop i (venueFrom bytes).series) ≡ all listedInRange (venueFrom bytes).series)
+    (i ≤ 8) × (length numbers ≡ size) × LoadingSeries numbers₀ numbers (venue_from bytes).series i
+    × (all listed_in_range (drop i (venue_from bytes).series) ≡ all listed_in_range (venue_from bytes).series)
 
 abbrev decreases-loop : tie.decreases-loop
 decreases-loop numbers₀ bytes i₀ numbers i = 8 - i
@@ -29,7 +29,7 @@ loop-holds c = let s = c.before.before in (omega arith, s.requires.whole, series
 
 returns : tie.Need-returns invariant-loop decreases-loop
 returns c = let h = c.before.before.before.before.loop in let n = series-long c.before.before.before.before.before.before.before.args.bytes.now in
-    told-not _ _ (rest-stop listedInRange notListed _ h.i (omega arith) _ c.before.before.listed_at.ensures (sym c.before.listed-in-range.ensures ∙ not-true _ c.if1.true)
+    told-not _ _ (rest-stop listed_in_range not_listed _ h.i (omega arith) _ c.before.before.listed_at.ensures (sym c.before.listed-in-range.ensures ∙ not-true _ c.if1.true)
     ∙ h.invariant.3)
 
 loop-again : tie.Need-loop-preserved invariant-loop decreases-loop
@@ -39,12 +39,12 @@ loop-again c = let h = c.before.before.before.before.before.before.before.before
       omega arith,
       m.long,
       m,
-      rest-past listedInRange notListed _ h.i (omega arith) _ c.before.before.before.before.before.before.listed_at.ensures (sym c.before.before.before.before.before.listed-in-range.ensures ∙ not-false _ c.before.before.before.before.if1.false) ∙ h.invariant.3,
+      rest-past listed_in_range not_listed _ h.i (omega arith) _ c.before.before.before.before.before.before.listed_at.ensures (sym c.before.before.before.before.before.listed-in-range.ensures ∙ not-false _ c.before.before.before.before.if1.false) ∙ h.invariant.3,
     )
 
 returns-2 : tie.Need-returns-2 invariant-loop decreases-loop
 returns-2 c = let h = c.before.loop in let n = series-long c.before.before.before.before.args.bytes.now in
-    told _ _ _ (rest-none listedInRange notListed _ h.i (omega arith) ∙ h.invariant.3)
+    told _ _ _ (rest-none listed_in_range not_listed _ h.i (omega arith) ∙ h.invariant.3)
     (λ _. record { venue = series-last _ _ _ _ h.invariant.2 c.loop-test.false n; regulars = h.invariant.2.counts.regulars; complexes = h.invariant.2.counts.complexes })
 
 pub load-series-spec : {M : Type 1} → statement M

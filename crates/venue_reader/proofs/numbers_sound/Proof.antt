@@ -5,13 +5,13 @@ use native.Mathlib.Omega.{arith}
 use lib.ListN.{length, drop}
 use borrow.Author.Tests.{not-true, not-false}
 use borrow.Author.Rules.{rules}
-use Rattle.venue_reader.specs.Checked.{numbersFrom}
+use Rattle.venue_reader.specs.Checked.{numbers_from}
 use Rattle.venue_reader.proofs.Passes.{numbers-none, numbers-fall, numbers-past}
 use Rattle.venue_reader.proofs.numbers_sound.Statement.{statement}
 use Rattle.venue_reader.proofs.numbers_sound.Tie as tie
 
 abbrev invariant-loop : tie.invariant-loop
-invariant-loop l low₀ i₀ low i = numbersFrom low (drop i l) ≡ numbersFrom 0 l
+invariant-loop l low₀ i₀ low i = numbers_from low (drop i l) ≡ numbers_from 0 l
 
 abbrev decreases-loop : tie.decreases-loop
 decreases-loop l low₀ i₀ low i = 20 - i

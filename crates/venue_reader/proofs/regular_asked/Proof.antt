@@ -2,8 +2,8 @@
 use mathlib.Core.Path.{sym, ◌∙◌}
 use borrow.Author.Tests.{not-true, not-false}
 use borrow.Author.Rules.{rules}
-use Rattle.rules.specs.Refusals.{regularInRange}
-use Rattle.rules.specs.Sound.{showsFully}
+use Rattle.rules.specs.Refusals.{regular_in_range}
+use Rattle.rules.specs.Sound.{shows_fully}
 use Rattle.venue_reader.proofs.Passes.{display-in, shows-less, shows-all, first-fails, second-fails, last-decides}
 use Rattle.venue_reader.proofs.regular_asked.Statement.{statement}
 use Rattle.venue_reader.proofs.regular_asked.Tie as tie
@@ -17,13 +17,13 @@ sub-if2 c = display-in c.before.before.before.args.o (sym c.before.before.regula
 returns-2 : tie.Need-returns-2
 returns-2 c =
     let o = c.before.before.before.before.before.args.o in
-    second-fails (regularInRange o) (showsFully o) _ (shows-less o c.if2.true)
+    second-fails (regular_in_range o) (shows_fully o) _ (shows-less o c.if2.true)
 
 returns-3 : tie.Need-returns-3
 returns-3 c =
     let i = c.before.before.before.before in
     let o = i.before.before.args.o in
-    last-decides (regularInRange o) (showsFully o) _ (sym i.before.regular-in-range.ensures ∙ not-false _ i.if1.false) (shows-all o c.before.if2.false)
+    last-decides (regular_in_range o) (shows_fully o) _ (sym i.before.regular-in-range.ensures ∙ not-false _ i.if1.false) (shows-all o c.before.if2.false)
 
 pub regular-asked-spec : {M : Type 1} → statement M
 regular-asked-spec = tie.close (tie.spec (λ c κs. search rules) returns sub-if2 returns-2 returns-3)

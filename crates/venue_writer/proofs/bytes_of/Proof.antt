@@ -3,19 +3,19 @@ use mathlib.Core.Path.{refl, ap, ◌∙◌}
 use native.Mathlib.Omega.{arith}
 use Prim.Native.Nat.{ℕ, ◌<◌}
 use lib.ListN.{get_or, length-replicate}
-use Rattle.rules.specs.Words.{noRegular, noComplex, noLegging, notListed, noEdition, noGenerations}
+use Rattle.rules.specs.Words.{no_regular, no_complex, no_legging, not_listed, no_edition, no_generations}
 use Rattle.rules.specs.Fields.{RegularFits, ComplexFits, LeggingFits, ListedFits, EditionFits, GenerationsFits}
 use Rattle.rules.specs.Records.{FourBytes}
-use Rattle.places.proofs.Tables.{free-getD}
-use Rattle.venue_bytes.specs.Held.{venueFrom, Declared}
+use Rattle.places.proofs.Tables.{free-get_d}
+use Rattle.venue_bytes.specs.Held.{venue_from, Declared}
 use Rattle.venue_writer.proofs.Given.{each-given, long, signed}
 use Rattle.venue_writer.proofs.Back.{held_whole}
 use borrow.Author.Rules.{rules}
 use Rattle.venue_writer.proofs.bytes_of.Statement.{statement}
 use Rattle.venue_writer.proofs.bytes_of.Tie as tie
 
-regular : (s : tie.Start) (i : ℕ) → RegularFits (get_or s.args.v.regular i noRegular)
-regular s = each-given _ _ noRegular RegularFits
+regular : (s : tie.Start) (i : ℕ) → RegularFits (get_or s.args.v.regular i no_regular)
+regular s = each-given _ _ no_regular RegularFits
     (record {
       id = omega arith;
       series = omega arith;
@@ -36,8 +36,8 @@ regular s = each-given _ _ noRegular RegularFits
     })
     s.args.v.regular _ s.well-formed.0.1.1.0.1.1
 
-complex : (s : tie.Start) (i : ℕ) → ComplexFits (get_or s.args.v.complex i noComplex)
-complex s = each-given _ _ noComplex ComplexFits
+complex : (s : tie.Start) (i : ℕ) → ComplexFits (get_or s.args.v.complex i no_complex)
+complex s = each-given _ _ no_complex ComplexFits
     (record {
       id = omega arith;
       series1 = omega arith;
@@ -64,29 +64,29 @@ complex s = each-given _ _ noComplex ComplexFits
     })
     s.args.v.complex _ s.well-formed.0.1.1.1.0.1.1
 
-legging : (s : tie.Start) (i : ℕ) → LeggingFits (get_or s.args.v.legging i noLegging)
-legging s = each-given _ _ noLegging LeggingFits (record { parent = omega arith; price = omega arith; quantity = omega arith }) (λ x u p. record {
+legging : (s : tie.Start) (i : ℕ) → LeggingFits (get_or s.args.v.legging i no_legging)
+legging s = each-given _ _ no_legging LeggingFits (record { parent = omega arith; price = omega arith; quantity = omega arith }) (λ x u p. record {
   parent = p.1.1.0.1;
   price = p.1.1.1.0.1;
   quantity = p.1.1.1.1.0.1;
 })
     s.args.v.legging _ s.well-formed.0.1.1.1.1.0.1.1
 
-series : (s : tie.Start) (i : ℕ) → ListedFits (get_or s.args.v.series i notListed)
-series s = each-given _ _ notListed ListedFits (record { status = omega arith; bid = omega arith; offer = omega arith }) (λ x u p. record {
+series : (s : tie.Start) (i : ℕ) → ListedFits (get_or s.args.v.series i not_listed)
+series s = each-given _ _ not_listed ListedFits (record { status = omega arith; bid = omega arith; offer = omega arith }) (λ x u p. record {
   status = p.1.1.0.1;
   bid = p.1.1.1.0.1;
   offer = p.1.1.1.1.0.1;
 })
     s.args.v.series _ s.well-formed.0.1.1.1.1.1.0.1.1
 
-editions : (s : tie.Start) (i : ℕ) → EditionFits (get_or s.args.v.editions i noEdition)
-editions s = each-given _ _ noEdition EditionFits (record { edition = omega arith; message = omega arith; figure = omega arith; value = omega arith })
+editions : (s : tie.Start) (i : ℕ) → EditionFits (get_or s.args.v.editions i no_edition)
+editions s = each-given _ _ no_edition EditionFits (record { edition = omega arith; message = omega arith; figure = omega arith; value = omega arith })
     (λ x u p. record { edition = p.1.1.0.1; message = p.1.1.1.0.1; figure = p.1.1.1.1.0.1; value = p.1.1.1.1.1.0.1 })
     s.args.v.editions _ s.well-formed.0.1.1.1.1.1.1.0.1.1
 
-generations : (s : tie.Start) (i : ℕ) → GenerationsFits (get_or s.args.v.generations i noGenerations)
-generations s = each-given _ _ noGenerations GenerationsFits (record { many = refl; messages = λ k. rw (free-getD {A = ℕ} 0 20 k) (omega arith) }) (λ x u p. record {
+generations : (s : tie.Start) (i : ℕ) → GenerationsFits (get_or s.args.v.generations i no_generations)
+generations s = each-given _ _ no_generations GenerationsFits (record { many = refl; messages = λ k. rw (free-get_d {A = ℕ} 0 20 k) (omega arith) }) (λ x u p. record {
   many = long _ x.messages p.1.1.0.1.0.1;
   messages = each-given _ _ 0 FourBytes (omega arith) (λ n w q. q.1) x.messages _ p.1.1.0.1.1;
 })
@@ -120,7 +120,7 @@ declared s = record {
 
 returns : tie.Need-returns
 returns c = let s = c.before.before.before in let p = c.before.put-venue in
-    (p.auto.0 ∙ length-replicate {A = ℕ} 4656 0, ap venueFrom p.ensures ∙ held_whole s.args.v (declared s))
+    (p.auto.0 ∙ length-replicate {A = ℕ} 4656 0, ap venue_from p.ensures ∙ held_whole s.args.v (declared s))
 
 pub bytes-of-spec : {M : Type 1} → statement M
 bytes-of-spec = tie.close (tie.spec (λ c. search rules) (λ c κs. search rules) returns)

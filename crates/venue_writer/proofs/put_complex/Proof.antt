@@ -9,7 +9,7 @@ use Rattle.rules.specs.Bytes.{bytes, u32, i32}
 use Rattle.rules.proofs.Reading.{byte}
 use Rattle.records.specs.Seen.{word_bytes}
 use Rattle.places.proofs.Limits.{number-cast, back32}
-use Rattle.venue_bytes.specs.Held.{complexBytes}
+use Rattle.venue_bytes.specs.Held.{complex_bytes}
 use Rattle.venue_bytes.proofs.Rows.{row_put}
 use borrow.Author.Rules.{rules}
 use Rattle.venue_writer.proofs.put_complex.Statement.{statement}
@@ -23,7 +23,7 @@ cast-bits : tie.Need-overflow-cast-bits
 cast-bits c = number-cast (limit-fits c)
 
 returns : tie.Need-returns
-unfolding complexBytes bytes word_bytes
+unfolding complex_bytes bytes word_bytes
 returns c =
     let s = c.before.before.before.before.before.before.before.before.before.before.before in
     let f = limit-fits c.before.before.before.before.before.before.before in

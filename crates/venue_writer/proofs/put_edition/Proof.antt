@@ -1,14 +1,14 @@
 -- `venue_writer::put_edition` meets its contract.
 use Rattle.rules.specs.Bytes.{bytes}
 use Rattle.rules.proofs.Reading.{byte}
-use Rattle.venue_bytes.specs.Held.{editionBytes}
+use Rattle.venue_bytes.specs.Held.{edition_bytes}
 use Rattle.venue_bytes.proofs.Rows.{row_put}
 use borrow.Author.Rules.{rules}
 use Rattle.venue_writer.proofs.put_edition.Statement.{statement}
 use Rattle.venue_writer.proofs.put_edition.Tie as tie
 
 returns : tie.Need-returns
-unfolding editionBytes bytes
+unfolding edition_bytes bytes
 returns c =
     let s = c.before.before.before.before.before.before.before.before in
     row_put _ _ _ _ _ _ c.before.before.put.ensures

@@ -7,19 +7,19 @@ use borrow.Author.Rules.{rules}
 use Rattle.rules.specs.Bytes.{u32}
 use Rattle.records.specs.Seen.{Seen, seen}
 use Rattle.records.proofs.SeenLaws.{plus-in}
-use Rattle.venue_bytes.specs.Held.{messagesOf, generationsBytes}
+use Rattle.venue_bytes.specs.Held.{messages_of, generations_bytes}
 use Rattle.venue_bytes.proofs.Rows.{Written, written_none, written-room, written_next, written_all, row_put}
 use Rattle.venue_bytes.proofs.Widths.{number-width, messages-many, message-at, generations-width}
 use Rattle.venue_writer.proofs.put_generations.Statement.{statement}
 use Rattle.venue_writer.proofs.put_generations.Tie as tie
 
 abbrev invariant-loop : tie.invariant-loop
-invariant-loop out₀ at messages k₀ out k = Written u32 at (messagesOf (record { messages = messages })) out₀ out k
+invariant-loop out₀ at messages k₀ out k = Written u32 at (messages_of (record { messages = messages })) out₀ out k
 
 abbrev decreases-loop : tie.decreases-loop
 decreases-loop out₀ at messages k₀ out k = 20 - k
 
-fits : (s : tie.Start invariant-loop decreases-loop) → 4 * length (messagesOf s.args.g) + s.args.at ≤ length s.args.out.now
+fits : (s : tie.Start invariant-loop decreases-loop) → 4 * length (messages_of s.args.g) + s.args.at ≤ length s.args.out.now
 fits s = omega (arith, messages-many s.args.g, s.requires)
 
 loop-holds : tie.Need-loop-init invariant-loop decreases-loop
@@ -33,21 +33,21 @@ loop-again c =
     let h = c.before.before.before.before.before.before.before in
     let s = h.before.before.before in
     let g = s.args.g in
-    written_next u32 4 number-width s.args.at (messagesOf g) s.args.out.now (fits s) h.loop.out h.loop.k h.loop.invariant _ _ _ _ (omega (arith, messages-many g))
+    written_next u32 4 number-width s.args.at (messages_of g) s.args.out.now (fits s) h.loop.out h.loop.k h.loop.invariant _ _ _ _ (omega (arith, messages-many g))
     (sym (message-at g h.loop.k (omega arith))) (omega arith) (row_put _ _ _ _ _ _ c.before.before.put.ensures c.before.before.before.before.before.bytes4.ensures)
 
 same_length : tie.Need-same-length invariant-loop decreases-loop
-same_length c = let h = c.before in let s = h.before.before.before in written-room u32 4 number-width s.args.at (messagesOf s.args.g)
+same_length c = let h = c.before in let s = h.before.before.before in written-room u32 4 number-width s.args.at (messages_of s.args.g)
     s.args.out.now (fits s) h.loop.out h.loop.k h.loop.invariant
 
 returns : tie.Need-returns invariant-loop decreases-loop
-unfolding generationsBytes seen
+unfolding generations_bytes seen
 returns c =
     let h = c.before in
     let s = h.before.before.before in
     let g = s.args.g in
-    written_all u32 s.args.at (messagesOf g) s.args.out.now h.loop.out h.loop.k h.loop.invariant (omega (arith, messages-many g))
-    ∙ sym (ap (λ (w : Seen). w.memory) (plus-in s.args.out.now (generationsBytes g) s.args.at (omega (arith, generations-width g))))
+    written_all u32 s.args.at (messages_of g) s.args.out.now h.loop.out h.loop.k h.loop.invariant (omega (arith, messages-many g))
+    ∙ sym (ap (λ (w : Seen). w.memory) (plus-in s.args.out.now (generations_bytes g) s.args.at (omega (arith, generations-width g))))
 
 pub put-generations-spec : {M : Type 1} → statement M
 put-generations-spec =

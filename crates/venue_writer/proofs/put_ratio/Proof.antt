@@ -1,14 +1,14 @@
 -- `venue_writer::put_ratio` meets its contract.
 use Rattle.rules.specs.Bytes.{bytes}
 use Rattle.rules.proofs.Reading.{byte}
-use Rattle.venue_bytes.specs.Held.{ratioBytes}
+use Rattle.venue_bytes.specs.Held.{ratio_bytes}
 use Rattle.venue_bytes.proofs.Rows.{row_put}
 use borrow.Author.Rules.{rules}
 use Rattle.venue_writer.proofs.put_ratio.Statement.{statement}
 use Rattle.venue_writer.proofs.put_ratio.Tie as tie
 
 returns : tie.Need-returns
-unfolding ratioBytes bytes
+unfolding ratio_bytes bytes
 returns c =
     let s = c.before.before.before.before.before.before in
     row_put _ _ _ _ _ _ c.before.before.put.ensures (rw (byte s.args.c.ratio1 (search rules), byte s.args.c.ratio2 (search rules)))

@@ -4,14 +4,14 @@ use Prim.Native.Nat.{◌+◌, ◌-◌, ◌*◌, ◌≤◌}
 use native.Mathlib.Omega.{arith}
 use lib.ListN.{length}
 use borrow.Author.Rules.{rules}
-use Rattle.venue_bytes.specs.Held.{ratiosAt, ratioBytes}
+use Rattle.venue_bytes.specs.Held.{ratios_at, ratio_bytes}
 use Rattle.venue_bytes.proofs.Rows.{Written, written_none, written-room, written_next, written_all}
 use Rattle.venue_bytes.proofs.Widths.{ratio-width}
 use Rattle.venue_writer.proofs.put_ratios.Statement.{statement}
 use Rattle.venue_writer.proofs.put_ratios.Tie as tie
 
 abbrev invariant-loop : tie.invariant-loop
-invariant-loop out₀ l i₀ out i = Written ratioBytes ratiosAt l out₀ out i
+invariant-loop out₀ l i₀ out i = Written ratio_bytes ratios_at l out₀ out i
 
 abbrev decreases-loop : tie.decreases-loop
 decreases-loop out₀ l i₀ out i = 32 - i
@@ -19,23 +19,23 @@ decreases-loop out₀ l i₀ out i = 32 - i
 long : (s : tie.Start invariant-loop decreases-loop) → length s.args.t2 ≡ 32
 long s = search rules
 
-fits : (s : tie.Start invariant-loop decreases-loop) → 2 * length s.args.t2 + ratiosAt ≤ length s.args.out.now
+fits : (s : tie.Start invariant-loop decreases-loop) → 2 * length s.args.t2 + ratios_at ≤ length s.args.out.now
 fits s = omega (arith, long s, s.requires)
 
 loop-holds : tie.Need-loop-init invariant-loop decreases-loop
-loop-holds c = written_none ratioBytes ratiosAt _ _
+loop-holds c = written_none ratio_bytes ratios_at _ _
 
 loop-again : tie.Need-loop-preserved invariant-loop decreases-loop
 loop-again c = let s = c.before.before.before.before.before.before.before.before in
-    let h = c.before.before.before.before.before.before in written_next ratioBytes 2 ratio-width ratiosAt s.args.t2 s.args.out.now
+    let h = c.before.before.before.before.before.before in written_next ratio_bytes 2 ratio-width ratios_at s.args.t2 s.args.out.now
     (fits s) h.loop.out h.loop.i h.loop.invariant _ _ _ _ (omega (arith, long s)) refl (omega arith) c.before.before.put-ratio.ensures
 
 same_length : tie.Need-same-length invariant-loop decreases-loop
-same_length c = let s = c.before.before.before in let h = c.before in written-room ratioBytes 2 ratio-width ratiosAt s.args.t2
+same_length c = let s = c.before.before.before in let h = c.before in written-room ratio_bytes 2 ratio-width ratios_at s.args.t2
     s.args.out.now (fits s) h.loop.out h.loop.i h.loop.invariant
 
 returns : tie.Need-returns invariant-loop decreases-loop
-returns c = let s = c.before.before.before in let h = c.before in written_all ratioBytes ratiosAt s.args.t2 s.args.out.now h.loop.out
+returns c = let s = c.before.before.before in let h = c.before in written_all ratio_bytes ratios_at s.args.t2 s.args.out.now h.loop.out
     h.loop.i h.loop.invariant (omega (arith, long s))
 
 pub put-ratios-spec : {M : Type 1} → statement M

@@ -4,14 +4,14 @@ use Prim.Native.Nat.{◌+◌, ◌-◌, ◌*◌, ◌≤◌}
 use native.Mathlib.Omega.{arith}
 use lib.ListN.{length}
 use borrow.Author.Rules.{rules}
-use Rattle.venue_bytes.specs.Held.{regularBytes}
+use Rattle.venue_bytes.specs.Held.{regular_bytes}
 use Rattle.venue_bytes.proofs.Rows.{Written, written_none, written-room, written_next, written_all}
 use Rattle.venue_bytes.proofs.Widths.{regular-width}
 use Rattle.venue_writer.proofs.put_regulars.Statement.{statement}
 use Rattle.venue_writer.proofs.put_regulars.Tie as tie
 
 abbrev invariant-loop : tie.invariant-loop
-invariant-loop out₀ l i₀ out i = Written regularBytes 0 l out₀ out i
+invariant-loop out₀ l i₀ out i = Written regular_bytes 0 l out₀ out i
 
 abbrev decreases-loop : tie.decreases-loop
 decreases-loop out₀ l i₀ out i = 128 - i
@@ -23,19 +23,19 @@ fits : (s : tie.Start invariant-loop decreases-loop) → 14 * length s.args.t2 +
 fits s = omega (arith, long s, s.requires)
 
 loop-holds : tie.Need-loop-init invariant-loop decreases-loop
-loop-holds c = written_none regularBytes 0 _ _
+loop-holds c = written_none regular_bytes 0 _ _
 
 loop-again : tie.Need-loop-preserved invariant-loop decreases-loop
 loop-again c = let s = c.before.before.before.before.before.before.before.before in
-    let h = c.before.before.before.before.before.before in written_next regularBytes 14 regular-width 0 s.args.t2 s.args.out.now
+    let h = c.before.before.before.before.before.before in written_next regular_bytes 14 regular-width 0 s.args.t2 s.args.out.now
     (fits s) h.loop.out h.loop.i h.loop.invariant _ _ _ _ (omega (arith, long s)) refl (omega arith) c.before.before.put-regular.ensures
 
 same_length : tie.Need-same-length invariant-loop decreases-loop
-same_length c = let s = c.before.before.before in let h = c.before in written-room regularBytes 14 regular-width 0 s.args.t2
+same_length c = let s = c.before.before.before in let h = c.before in written-room regular_bytes 14 regular-width 0 s.args.t2
     s.args.out.now (fits s) h.loop.out h.loop.i h.loop.invariant
 
 returns : tie.Need-returns invariant-loop decreases-loop
-returns c = let s = c.before.before.before in let h = c.before in written_all regularBytes 0 s.args.t2 s.args.out.now h.loop.out h.loop.i h.loop.invariant (omega (arith, long s))
+returns c = let s = c.before.before.before in let h = c.before in written_all regular_bytes 0 s.args.t2 s.args.out.now h.loop.out h.loop.i h.loop.invariant (omega (arith, long s))
 
 pub put-regulars-spec : {M : Type 1} → statement M
 put-regulars-spec =

@@ -1,14 +1,14 @@
 -- `venue_writer::put_reserve` meets its contract.
 use Rattle.rules.specs.Bytes.{bytes}
 use Rattle.records.specs.Seen.{word_bytes}
-use Rattle.venue_bytes.specs.Held.{reserveBytes}
+use Rattle.venue_bytes.specs.Held.{reserve_bytes}
 use Rattle.venue_bytes.proofs.Rows.{row_put}
 use borrow.Author.Rules.{rules}
 use Rattle.venue_writer.proofs.put_reserve.Statement.{statement}
 use Rattle.venue_writer.proofs.put_reserve.Tie as tie
 
 returns : tie.Need-returns
-unfolding reserveBytes bytes word_bytes
+unfolding reserve_bytes bytes word_bytes
 returns c = let s = c.before.before.before.before.before.before.before.before in row_put _ _ _ _ _ _ c.before.before.put-words.ensures
     (rw c.before.before.before.before.before.before.bytes4.ensures)
 

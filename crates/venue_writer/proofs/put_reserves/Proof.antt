@@ -4,14 +4,14 @@ use Prim.Native.Nat.{◌+◌, ◌-◌, ◌*◌, ◌≤◌}
 use native.Mathlib.Omega.{arith}
 use lib.ListN.{length}
 use borrow.Author.Rules.{rules}
-use Rattle.venue_bytes.specs.Held.{reservesAt, reserveBytes}
+use Rattle.venue_bytes.specs.Held.{reserves_at, reserve_bytes}
 use Rattle.venue_bytes.proofs.Rows.{Written, written_none, written-room, written_next, written_all}
 use Rattle.venue_bytes.proofs.Widths.{reserve-width}
 use Rattle.venue_writer.proofs.put_reserves.Statement.{statement}
 use Rattle.venue_writer.proofs.put_reserves.Tie as tie
 
 abbrev invariant-loop : tie.invariant-loop
-invariant-loop out₀ l i₀ out i = Written reserveBytes reservesAt l out₀ out i
+invariant-loop out₀ l i₀ out i = Written reserve_bytes reserves_at l out₀ out i
 
 abbrev decreases-loop : tie.decreases-loop
 decreases-loop out₀ l i₀ out i = 128 - i
@@ -19,24 +19,24 @@ decreases-loop out₀ l i₀ out i = 128 - i
 long : (s : tie.Start invariant-loop decreases-loop) → length s.args.t2 ≡ 128
 long s = search rules
 
-fits : (s : tie.Start invariant-loop decreases-loop) → 8 * length s.args.t2 + reservesAt ≤ length s.args.out.now
+fits : (s : tie.Start invariant-loop decreases-loop) → 8 * length s.args.t2 + reserves_at ≤ length s.args.out.now
 fits s = omega (arith, long s, s.requires)
 
 loop-holds : tie.Need-loop-init invariant-loop decreases-loop
-loop-holds c = written_none reserveBytes reservesAt _ _
+loop-holds c = written_none reserve_bytes reserves_at _ _
 
 loop-again : tie.Need-loop-preserved invariant-loop decreases-loop
 loop-again c = let s = c.before.before.before.before.before.before.before.before in
-    let h = c.before.before.before.before.before.before in written_next reserveBytes 8 reserve-width reservesAt s.args.t2
+    let h = c.before.before.before.before.before.before in written_next reserve_bytes 8 reserve-width reserves_at s.args.t2
     s.args.out.now (fits s) h.loop.out h.loop.i h.loop.invariant _ _ _ _ (omega (arith, long s)) refl (omega arith)
     c.before.before.put-reserve.ensures
 
 same_length : tie.Need-same-length invariant-loop decreases-loop
-same_length c = let s = c.before.before.before in let h = c.before in written-room reserveBytes 8 reserve-width reservesAt s.args.t2
+same_length c = let s = c.before.before.before in let h = c.before in written-room reserve_bytes 8 reserve-width reserves_at s.args.t2
     s.args.out.now (fits s) h.loop.out h.loop.i h.loop.invariant
 
 returns : tie.Need-returns invariant-loop decreases-loop
-returns c = let s = c.before.before.before in let h = c.before in written_all reserveBytes reservesAt s.args.t2 s.args.out.now
+returns c = let s = c.before.before.before in let h = c.before in written_all reserve_bytes reserves_at s.args.t2 s.args.out.now
     h.loop.out h.loop.i h.loop.invariant (omega (arith, long s))
 
 pub put-reserves-spec : {M : Type 1} → statement M

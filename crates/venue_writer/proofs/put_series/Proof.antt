@@ -4,14 +4,14 @@ use Prim.Native.Nat.{◌+◌, ◌-◌, ◌*◌, ◌≤◌}
 use native.Mathlib.Omega.{arith}
 use lib.ListN.{length}
 use borrow.Author.Rules.{rules}
-use Rattle.venue_bytes.specs.Held.{listedBytes}
+use Rattle.venue_bytes.specs.Held.{listed_bytes}
 use Rattle.venue_bytes.proofs.Rows.{Written, written_none, written-room, written_next, written_all}
 use Rattle.venue_bytes.proofs.Widths.{listed-width}
 use Rattle.venue_writer.proofs.put_series.Statement.{statement}
 use Rattle.venue_writer.proofs.put_series.Tie as tie
 
 abbrev invariant-loop : tie.invariant-loop
-invariant-loop out₀ l i₀ out i = Written listedBytes 2528 l out₀ out i
+invariant-loop out₀ l i₀ out i = Written listed_bytes 2528 l out₀ out i
 
 abbrev decreases-loop : tie.decreases-loop
 decreases-loop out₀ l i₀ out i = 8 - i
@@ -23,19 +23,19 @@ fits : (s : tie.Start invariant-loop decreases-loop) → 9 * length s.args.t2 + 
 fits s = omega (arith, long s, s.requires)
 
 loop-holds : tie.Need-loop-init invariant-loop decreases-loop
-loop-holds c = written_none listedBytes 2528 _ _
+loop-holds c = written_none listed_bytes 2528 _ _
 
 loop-again : tie.Need-loop-preserved invariant-loop decreases-loop
 loop-again c = let s = c.before.before.before.before.before.before.before.before in
-    let h = c.before.before.before.before.before.before in written_next listedBytes 9 listed-width 2528 s.args.t2 s.args.out.now
+    let h = c.before.before.before.before.before.before in written_next listed_bytes 9 listed-width 2528 s.args.t2 s.args.out.now
     (fits s) h.loop.out h.loop.i h.loop.invariant _ _ _ _ (omega (arith, long s)) refl (omega arith) c.before.before.put-listed.ensures
 
 same_length : tie.Need-same-length invariant-loop decreases-loop
-same_length c = let s = c.before.before.before in let h = c.before in written-room listedBytes 9 listed-width 2528 s.args.t2
+same_length c = let s = c.before.before.before in let h = c.before in written-room listed_bytes 9 listed-width 2528 s.args.t2
     s.args.out.now (fits s) h.loop.out h.loop.i h.loop.invariant
 
 returns : tie.Need-returns invariant-loop decreases-loop
-returns c = let s = c.before.before.before in let h = c.before in written_all listedBytes 2528 s.args.t2 s.args.out.now h.loop.out h.loop.i h.loop.invariant (omega (arith, long s))
+returns c = let s = c.before.before.before in let h = c.before in written_all listed_bytes 2528 s.args.t2 s.args.out.now h.loop.out h.loop.i h.loop.invariant (omega (arith, long s))
 
 pub put-series-spec : {M : Type 1} → statement M
 put-series-spec =

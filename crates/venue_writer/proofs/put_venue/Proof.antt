@@ -4,7 +4,7 @@ use mathlib.Core.List.{List}
 use Prim.Native.Nat.{ℕ}
 use lib.ListN.{length}
 use Rattle.records.specs.Seen.{seen, ◌plus◌}
-use Rattle.venue_bytes.specs.Held.{reachedAt, Sized}
+use Rattle.venue_bytes.specs.Held.{reached_at, Sized}
 use Rattle.venue_writer.proofs.Given.{long}
 use Rattle.venue_writer.proofs.Whole.{venue-put}
 use borrow.Author.Rules.{rules}
@@ -66,7 +66,7 @@ returns c =
     venue-put s.args.v (sized s) s.args.out.now _ _ _ _ _ _ _ _ _ _ _ _ s.pre r.put-regulars.ensures x.put-complexes.ensures g.put-leggings.ensures d.put-series.ensures
     (l.put.ensures ∙ ap (λ (y : List ℕ). seen d.put-series.last.0 2600 plus y) l.before.before.before.bytes4.ensures)
     e.put-editions.ensures h.put-reserves.ensures t.put-ratios.ensures n.put-all-generations.ensures
-    (z.put2.ensures ∙ ap (λ (y : List ℕ). seen n.put-all-generations.new.0 reachedAt plus y) z.before.before.before.bytes42.ensures)
+    (z.put2.ensures ∙ ap (λ (y : List ℕ). seen n.put-all-generations.new.0 reached_at plus y) z.before.before.before.bytes42.ensures)
 
 pub put-venue-spec : {M : Type 1} → statement M
 put-venue-spec =

@@ -1,12 +1,12 @@
 use mathlib.Core.Path.{ap₂, ◌∙◌}
 use Prim.Native.Nat.{ℕ, ◌+◌, ◌*◌}
-use Rattle.rules.specs.Bytes.{u16At}
+use Rattle.rules.specs.Bytes.{u16_at}
 use borrow.Author.Rules.{rules}
 use Rattle.wire.proofs.half_at.Statement.{statement}
 use Rattle.wire.proofs.half_at.Tie as tie
 
 returns : tie.Need-returns
-unfolding u16At
+unfolding u16_at
 returns c =
     ap₂ (λ (low high : ℕ). low + 256 * high)
     (c.before.before.wide16.ensures.0 ∙ c.before.before.before.byte_at.ensures)

@@ -1,15 +1,15 @@
 use native.Mathlib.Omega.{arith}
-use Rattle.rules.specs.Words.{isSeries, isStatus}
+use Rattle.rules.specs.Words.{is_series, is_status}
 use Rattle.rules.proofs.Ranges.{above, inside, within-top}
 use Rattle.wire.proofs.status_in_range.Statement.{statement}
 use Rattle.wire.proofs.status_in_range.Tie as tie
 
 returns : tie.Need-returns
-unfolding isSeries
+unfolding is_series
 returns c = rw (above 0 7 c.before.args.series c.if1.true)
 
 returns-2 : tie.Need-returns-2
-unfolding isSeries isStatus
+unfolding is_series is_status
 returns-2 c = rw (inside 0 7 c.before.args.series (omega arith) c.if1.false) (within-top 0 2 c.before.args.status (omega arith))
 
 pub status-in-range-spec : {M : Type 1} → statement M

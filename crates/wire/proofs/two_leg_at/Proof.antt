@@ -1,12 +1,12 @@
 use mir.Syntax.{w32}
 use mir.ValLaws.{to_z-of_z}
-use Rattle.rules.specs.Messages.{twoLegAt}
+use Rattle.rules.specs.Messages.{two_leg_at}
 use borrow.Author.Rules.{rules}
 use Rattle.wire.proofs.two_leg_at.Statement.{statement}
 use Rattle.wire.proofs.two_leg_at.Tie as tie
 
 returns : tie.Need-returns
-unfolding twoLegAt
+unfolding two_leg_at
 returns c =
     rw (
       to_z-of_z w32 c.before.as-signed.result (record { sfits = c.before.as-signed.type-inv }),

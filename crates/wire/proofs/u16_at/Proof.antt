@@ -1,6 +1,6 @@
 use mathlib.Core.Path.{sym, ap₂, ◌∙◌}
 use Prim.Native.Nat.{ℕ, ◌+◌, ◌*◌}
-use Rattle.rules.specs.Bytes.{u16At}
+use Rattle.rules.specs.Bytes.{u16_at}
 use Rattle.wire.proofs.Numbers.{u16-past}
 use borrow.Author.Rules.{rules}
 use Rattle.wire.proofs.u16_at.Statement.{statement}
@@ -10,7 +10,7 @@ returns : tie.Need-returns
 returns c = sym (u16-past _ _ c.if1.true)
 
 returns-2 : tie.Need-returns-2
-unfolding u16At
+unfolding u16_at
 returns-2 c =
     ap₂ (λ (low high : ℕ). low + 256 * high)
     (c.before.before.wide16.ensures.0 ∙ c.before.before.before.u8-at.ensures)

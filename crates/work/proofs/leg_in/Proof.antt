@@ -11,7 +11,7 @@ use Rattle.work.proofs.leg_in.Tie as tie
 
 complex-at-requires : tie.Need-complex-at-requires
 complex-at-requires c κs = let z = complexes-few c.before.before.before.args.numbers.now in
-    record { whole = c.before.before.before.requires.whole; place = omega (arith, c.before.before.before.requires.inUse) }
+    record { whole = c.before.before.before.requires.whole; place = omega (arith, c.before.before.before.requires.in_use) }
 
 trade-at-price-requires : tie.Need-trade-at-price-requires
 trade-at-price-requires c κs = let p = c.before.before.before.before.before.before.before.before.before.requires in record { whole = p.whole; right = p.right }
@@ -33,7 +33,7 @@ returns c =
     let s = p23.before.before.before.before.before in
     let a = s.args in
     let w = p23.net-of in (
-      leg-in-law a.i a.a a.p a.k _ _ _ _ _ _ _ _ _ _ _ _ _ _ _ _ (p23.before.complex-at.ensures ∙ sym (complex-at a.numbers.now a.i s.requires.inUse))
+      leg-in-law a.i a.a a.p a.k _ _ _ _ _ _ _ _ _ _ _ _ _ _ _ _ (p23.before.complex-at.ensures ∙ sym (complex-at a.numbers.now a.i s.requires.in_use))
           (back {z = w.result} (record { sfits = w.type-inv }) ∙ w.ensures.0) p21.before.contracts.ensures p21.contracts2.ensures p18.trade-at-price.ensures.0
           p11.trade-at-price2.ensures.0 p4.pair-off.ensures.0,
       counts-on _ _ _ (counts-on _ _ _ p18.trade-at-price.ensures.1 p11.trade-at-price2.ensures.1) p4.pair-off.ensures.1,

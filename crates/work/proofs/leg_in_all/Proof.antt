@@ -2,8 +2,8 @@
 use mathlib.Core.Path.{refl, sym, subst, ◌∙◌}
 use native.Mathlib.Omega.{arith}
 use Rattle.rules.specs.Effects.{repeat}
-use Rattle.rules.specs.Complex.{legInTurn}
-use Rattle.places.specs.Layout.{venueOf}
+use Rattle.rules.specs.Complex.{leg_in_turn}
+use Rattle.places.specs.Layout.{venue_of}
 use Rattle.places.proofs.Parts.{complexes-few, complex-at}
 use Rattle.levels.specs.Grid.{LegsIn}
 use Rattle.prices.proofs.Prices.{legs-in}
@@ -15,7 +15,7 @@ use Rattle.work.proofs.leg_in_all.Statement.{statement}
 use Rattle.work.proofs.leg_in_all.Tie as tie
 
 abbrev invariant-loop : tie.invariant-loop
-invariant-loop b₀ i quantity out₀ at pos₀ turns₀ b out pos turns = Doing (repeat quantity (legInTurn i) (venueOf b₀)) (repeat turns (legInTurn i)) b₀ out₀ at b out pos
+invariant-loop b₀ i quantity out₀ at pos₀ turns₀ b out pos turns = Doing (repeat quantity (leg_in_turn i) (venue_of b₀)) (repeat turns (leg_in_turn i)) b₀ out₀ at b out pos
 
 abbrev decreases-loop : tie.decreases-loop
 decreases-loop b₀ i quantity out₀ at pos₀ turns₀ b out pos turns = turns
@@ -26,7 +26,7 @@ loop-holds c = doing-start _ _ _ _ _ c.before.before.requires.whole refl
 complex-at-requires : tie.Need-complex-at-requires invariant-loop decreases-loop
 complex-at-requires c κs = let z = complexes-few c.before.before.loop.numbers in record {
   whole = c.before.before.loop.invariant.whole;
-  place = omega (arith, c.before.before.loop.invariant.counts.complexes, c.before.before.before.before.before.requires.inUse);
+  place = omega (arith, c.before.before.loop.invariant.counts.complexes, c.before.before.before.before.before.requires.in_use);
 }
 
 taken-at-requires : tie.Need-taken-at-requires invariant-loop decreases-loop
@@ -61,7 +61,7 @@ returns c =
     let t = p5.taken_at in (
       doing_end l.invariant
           (repeat-stop _ _ _
-          (leg-stop _ _ t.result t.ensures s.args.i (p7.complex-at.ensures ∙ sym (complex-at l.numbers s.args.i (omega (arith, l.invariant.counts.complexes, s.requires.inUse))))
+          (leg-stop _ _ t.result t.ensures s.args.i (p7.complex-at.ensures ∙ sym (complex-at l.numbers s.args.i (omega (arith, l.invariant.counts.complexes, s.requires.in_use))))
           (off _ _ c.before.can-leg-in.ensures c.if1.true))),
       l.invariant.counts,
     )
@@ -84,7 +84,7 @@ returns-2 c =
     let t = p7.taken_at in (
       doing_end l.invariant
           (repeat-stop _ _ _
-          (leg-short _ _ t.result t.ensures s.args.i (p9.complex-at.ensures ∙ sym (complex-at l.numbers s.args.i (omega (arith, l.invariant.counts.complexes, s.requires.inUse))))
+          (leg-short _ _ t.result t.ensures s.args.i (p9.complex-at.ensures ∙ sym (complex-at l.numbers s.args.i (omega (arith, l.invariant.counts.complexes, s.requires.in_use))))
           (on _ _ p2.before.can-leg-in.ensures p2.if1.false) _ (c.before.Units-in.ensures _ t.ensures) c.if2.true)),
       l.invariant.counts,
     )
@@ -93,7 +93,7 @@ leg-in-requires : tie.Need-leg-in-requires invariant-loop decreases-loop
 leg-in-requires c κs =
     let l = c.before.before.before.before.before.before.before.before.before.before.before.before.before.before.loop in
     let p = c.before.before.before.before.before.before.before.before.before.before.before.before.before.before.before.before.before.requires in
-    record { whole = l.invariant.whole; right = l.invariant.counts.right p.right; inUse = omega (arith, l.invariant.counts.complexes, p.inUse) }
+    record { whole = l.invariant.whole; right = l.invariant.counts.right p.right; in_use = omega (arith, l.invariant.counts.complexes, p.in_use) }
 
 loop-again : tie.Need-loop-preserved invariant-loop decreases-loop
 loop-again c =
@@ -109,7 +109,7 @@ loop-again c =
     let x = p4.leg-in in
     doing-turn l.invariant _ _ _ _ _
     (repeat-turn _ _ _ _ _ (omega (arith, p18.loop-test.true))
-    (leg-turn _ _ t.result t.ensures s.args.i (p16.complex-at.ensures ∙ sym (complex-at l.numbers s.args.i (omega (arith, l.invariant.counts.complexes, s.requires.inUse))))
+    (leg-turn _ _ t.result t.ensures s.args.i (p16.complex-at.ensures ∙ sym (complex-at l.numbers s.args.i (omega (arith, l.invariant.counts.complexes, s.requires.in_use))))
     (on _ _ p9.before.can-leg-in.ensures p9.if1.false) _ (p7.before.Units-in.ensures _ t.ensures) p7.if2.false))
     x.auto.0 x.ensures.0 x.ensures.1
 

@@ -12,11 +12,11 @@ use Rattle.work.proofs.work.Tie as tie
 
 complex-at-requires : tie.Need-complex-at-requires
 complex-at-requires c κs = let z = complexes-few c.before.before.before.args.numbers.now in
-    record { whole = c.before.before.before.requires.whole; place = omega (arith, c.before.before.before.requires.inUse) }
+    record { whole = c.before.before.before.requires.whole; place = omega (arith, c.before.before.before.requires.in_use) }
 
 returns : tie.Need-returns
 returns c = let start = c.before.before.before.before.before.before in (
-  work-gone start.args.i _ _ (c.before.before.complex-at.ensures ∙ sym (complex-at start.args.numbers.now start.args.i start.requires.inUse)) _ _ c.if1.true,
+  work-gone start.args.i _ _ (c.before.before.complex-at.ensures ∙ sym (complex-at start.args.numbers.now start.args.i start.requires.in_use)) _ _ c.if1.true,
   record { regulars = refl; complexes = refl; right = λ h. h },
 )
 
@@ -27,7 +27,7 @@ any-closed-requires c κs = let start = c.before.before.before.before.before.bef
 returns-2 : tie.Need-returns-2
 returns-2 c = let start = c.before.before.before.before.before.before.before.before.before in (
   work_closed start.args.i _ _
-      (c.before.before.before.before.before.complex-at.ensures ∙ sym (complex-at start.args.numbers.now start.args.i start.requires.inUse)) _ _
+      (c.before.before.before.before.before.complex-at.ensures ∙ sym (complex-at start.args.numbers.now start.args.i start.requires.in_use)) _ _
       (sym c.before.any-closed.ensures ∙ c.if2.true),
   record { regulars = refl; complexes = refl; right = λ h. h },
 )
@@ -39,7 +39,7 @@ touch-requires : tie.Need-touch-requires
 touch-requires c κs =
     let x = c.before.before.before.before.before.before.cross-all in
     let s = c.before.before.before.before.before.before.before.before.before.before.before.before.before.before.before.before.before.before in
-    record { whole = x.auto.0 ∙ s.requires.whole; right = x.ensures.1.right s.requires.right; inUse = omega (arith, x.ensures.1.complexes, s.requires.inUse) }
+    record { whole = x.auto.0 ∙ s.requires.whole; right = x.ensures.1.right s.requires.right; in_use = omega (arith, x.ensures.1.complexes, s.requires.in_use) }
 
 leg-in-all-requires : tie.Need-leg-in-all-requires
 leg-in-all-requires c κs =
@@ -49,7 +49,7 @@ leg-in-all-requires c κs =
     record {
       whole = t.auto.0 ∙ x.auto.0 ∙ s.pre.whole;
       right = t.ensures.1.right (x.ensures.1.right s.pre.right);
-      inUse = omega (arith, t.ensures.1.complexes, x.ensures.1.complexes, s.pre.inUse);
+      in_use = omega (arith, t.ensures.1.complexes, x.ensures.1.complexes, s.pre.in_use);
     }
 
 returns-3 : tie.Need-returns-3
@@ -59,7 +59,7 @@ returns-3 c =
     let x = c.before.before.before.before.before.before.before.before.before.before.before.before.before.before.before.before.before.before.cross-all in
     let s = c.before.before.before.before.before.before.before.before.before.before.before.before.before.before.before.before.before.before.before.before.before.before.before.before.before.before.before.before.before.before in (
       work-steps s.args.i _ _
-          (c.before.before.before.before.before.before.before.before.before.before.before.before.before.before.before.before.before.before.before.before.before.before.before.before.before.before.complex-at.ensures ∙ sym (complex-at s.args.numbers.now s.args.i s.pre.inUse))
+          (c.before.before.before.before.before.before.before.before.before.before.before.before.before.before.before.before.before.before.before.before.before.before.before.before.before.before.complex-at.ensures ∙ sym (complex-at s.args.numbers.now s.args.i s.pre.in_use))
           _ _ _ _ _ _ _ _ _ _ _
           (sym c.before.before.before.before.before.before.before.before.before.before.before.before.before.before.before.before.before.before.before.before.before.before.any-closed.ensures
           ∙ c.before.before.before.before.before.before.before.before.before.before.before.before.before.before.before.before.before.before.before.before.before.if2.false) x.ensures.0 t.ensures.0 w.ensures.0,
