@@ -1,5 +1,5 @@
-# The scripts of bin/ and .ci/run source this file: it has what they print, and how they prove and build. A script of
-# bin/ sets `me` to its name first.
+# Sourced by the scripts of bin/ and by .ci/run: what they say, and how they prove and build. A script of bin/ sets
+# `me` to its name first.
 
 # How many minutes the crates of a program, and those of the archives, take from nothing on two cores.
 MINUTES=5
@@ -46,7 +46,7 @@ memory_room() {
     export RT_JOBS="${RT_JOBS:-${fit:-4}}"
 }
 
-# needed NAME...: these crates and all that they use, a line each.
+# needed NAME...: the crates that these stand on, themselves among them, a line each.
 needed() {
     awk -v todo="$*" '
         { sub(/#.*/, "") }
@@ -68,8 +68,8 @@ needed() {
         }' "$top/crates.txt"
 }
 
-# follow WHOLE FIRST: copies what rt prints into $log, and prints the name of each crate that is proved and the count of WHOLE,
-# on a terminal in one line. It prints crates that were proved before only if FIRST is yes.
+# follow WHOLE FIRST: reads what rt says into $log, and tells of each crate that it is proved, and how many are of WHOLE:
+# on a terminal in one line. Those that were proved before are told where FIRST is yes.
 follow() {
     local line name count=0
     while IFS= read -r line; do
@@ -87,15 +87,15 @@ follow() {
     [ ! -t 2 ] || printf '\r\033[K' >&2
 }
 
-# prove FIRST NAME...: proves crates and all that they use, and builds the programs among them.
+# prove FIRST NAME...: proves crates and what they stand on, and builds the programs among them.
 prove() {
     local first=$1 whole status
     shift
-    has rt || fail 'rt, the Rattle toolchain, is not in PATH: README.md says what is needed'
+    has rt || fail 'rt, the Rattle toolchain, is not in PATH: README.md tells what is needed'
     log=$top/target/log/${me//\//-}.log
     mkdir -p "$top/target/log"
     : >"$log"
-    # Two scripts at a time would prove everything twice, each over the other's files.
+    # Two at a time would prove all of it twice, each over the other's files.
     if has flock; then
         exec 9>"$top/target/lock"
         flock -n 9 || { say 'waiting for another script that proves here'; flock 9; }
@@ -110,30 +110,30 @@ prove() {
     [ "$status" -eq 0 ] || refused "$status"
 }
 
-# Prints what rt did not prove, and ends.
+# Tells what rt refused, and ends.
 refused() { # STATUS
     grep -E '^rt: .*(NOT PROVED|FAILED)' "$log" >&2 || tail -n 5 "$log" >&2
-    fail "rt ended with status $1; its output is in $log"
+    fail "rt ended with status $1; all that it said is in $log"
 }
 
-# prove_program NAME: proves and builds target/bin/NAME.
+# prove_program NAME: has target/bin/NAME, proved.
 prove_program() {
-    # A program that bin/install has installed needs no proof here.
+    # Where bin/install has put it there is nothing to prove.
     [ -e "$top/crates.txt" ] || return 0
     local first=no count
     if [ ! -x "$top/target/bin/$1" ]; then
         first=yes
         count=$(needed "$1" | wc -l)
-        say "proving and building the program and the crates that it uses, $count crates, this once: about $MINUTES minutes"
+        say "proving and building the program and all that it stands on, $count crates, this once: about $MINUTES minutes"
     fi
     prove "$first" "$1"
 }
 
-# build PACKAGE: builds host/target/release/PACKAGE.
+# build PACKAGE: has host/target/release/PACKAGE.
 build() {
     local folder=$top/host/target program=$top/host/target/release/$1
     if [ -x "$program" ] && { ! has cargo || [ ! -w "$folder" ]; }; then return; fi
-    has cargo || fail 'cargo, which Rust has, is not in PATH: README.md says what is needed'
+    has cargo || fail 'cargo, which Rust has, is not in PATH: README.md tells what is needed'
     [ -x "$program" ] || say "building host/target/release/$1, this once"
     local words=(--release --offline --quiet --manifest-path "$top/host/Cargo.toml" -p "$1")
     CARGO_TARGET_DIR=$folder cargo build "${words[@]}" >&2 || fail "host/target/release/$1 was not built"
@@ -145,14 +145,14 @@ is_new() { # NAME
     [ -f "$archive" ] && [ -z "$(find "$top/crates" "$top/crates.txt" -newer "$archive" -print -quit)" ]
 }
 
-# Makes both archives. It first proves the crates that they use, several at a time; rt staticlib proves the crate of the
-# archive itself.
+# Has both archives. What they stand on is proved first, several crates at a time; rt staticlib proves the one that it
+# is asked for.
 archives() {
     local name first=no needs=no below
     for name in "${ARCHIVES[@]}"; do is_new "$name" || needs=yes; done
     [ "$needs" = yes ] || return 0
     [ -f "$top/target/staticlib/lib${ARCHIVES[0]}.a" ] || first=yes
-    say "proving and building the engine's archives and the crates that they use: about $ARCHIVE_MINUTES minutes"
+    say "proving and building the engine's archives and all that they stand on: about $ARCHIVE_MINUTES minutes"
     below=$(needed "${ARCHIVES[@]}" | grep -vxF "$(printf '%s\n' "${ARCHIVES[@]}")")
     room=$(mktemp -d)
     # shellcheck disable=SC2086

@@ -2,7 +2,7 @@
  * The legging order engine, for hosts in C and C++.
  *
  * `bin/install PREFIX` installs this header and two archives: liblegging.a, and for the
- * calls of four venues behind one line liblegging_layer.a. To link a host:
+ * calls of four venues behind one line liblegging_layer.a. A host links them so:
  *
  *     cc host.c $(pkg-config --cflags --libs legging)
  *     cc four.c $(pkg-config --cflags --libs legging_layer)
@@ -14,50 +14,48 @@
  *
  * MEMORY
  *   All memory is the host's. A call keeps no pointer after it returns, allocates
- *   nothing, reads and writes no file, and needs less than 24 KiB of stack.
- *   legging_settings and legging_write_set need less than 32 KiB, legging_read_set and
- *   the calls on four venues less than 48 KiB.
- *   - A call only reads `messages` (or `message`) and the lines `main` and `spare`. It
- *     reads no byte past their lengths.
- *   - legging_message and legging_messages read and write `venue`: unless a message was
- *     accepted, `venue` holds after the call what it held before. legging_settings and
- *     legging_write_set only read `venue`. legging_fresh and legging_read_set only write
- *     `venue`, and what it held before is lost: a legging_read_set that refuses its set
- *     writes a fresh venue. Both leave `venue` as it was if a length is wrong.
- *   - A call reads and writes `layer`; legging_layer_fresh only writes it.
- *   - A call writes every byte of `report`, whatever it returns: the records done, then
- *     zeros. It does not read what `report` held before.
- *   - A call writes every byte of `settings`, of the set that legging_write_set writes, of
- *     `written`, of `number` and of `done` in the same way. legging_read_set only reads its
- *     set.
+ *   nothing, reads and writes no file, and needs less than 32 KiB of stack;
+ *   legging_read_set and a call upon four venues need less than 48 KiB.
+ *   - `messages` (or `message`) and the lines `main` and `spare` are only read. Bytes
+ *     past their lengths are not.
+ *   - `venue` is read and written by legging_message: unless the message was accepted,
+ *     it holds after the call what it held before. legging_settings and
+ *     legging_write_set only read it. legging_fresh and legging_read_set only write it,
+ *     and what it held before is lost: a legging_read_set that refuses its set writes a
+ *     fresh venue. Both leave it as it was where `venue_length` is wrong.
+ *   - `layer` is read and written; legging_layer_fresh only writes it.
+ *   - `report` is written from its first byte to its last, whatever the call
+ *     ends with: the records done, then zeros. What it held before is not read.
+ *   - `settings`, the set that legging_write_set writes, `written` and `number` are
+ *     written so too: what is told, then zeros. The set that legging_read_set reads is
+ *     only read.
  *   - A pointer with the length 0 may be NULL; otherwise it points to as many
  *     bytes as its length says, no more than PTRDIFF_MAX of them, at any alignment.
- *   - Memory that a call writes must not overlap other memory of the same call, and no
- *     other thread may read or write it during the call.
- *   - No other thread or program may write memory that a call reads, during the call: a
- *     call reads some bytes twice, so a byte that changes between would be tested as one
- *     value and used as another.
- *   - The archive itself is code and at most 128 bytes of read-only constants. It has no
- *     table and no data that is written.
+ *   - Memory that a call writes overlaps no other memory of the same call, and
+ *     no other thread reads or writes it meanwhile.
+ *   - Memory that a call only reads is not written meanwhile, by another thread or
+ *     another program that shares it: a call reads some bytes twice, so one that
+ *     changed between would be tested as one value and used as another.
+ *   - The archive itself is code and at most 128 bytes of read-only constants:
+ *     no table, and no data that is written.
  *
  * THREADS
- *   The engine has no state outside the memory of a call: no global or static variable.
- *   Any number of calls may run at once, each on its own memory. They may share messages
- *   and lines, and any other memory that they all only read.
+ *   There is no state outside the memory lent: no global or static variable. Any
+ *   number of calls may run at once, each upon memory of its own; they may share
+ *   messages and lines, and any other memory that they all only read.
  *
  * PROVED AND TESTED
- *   Proved for every call and all bytes: the number returned and every byte written are
- *   those of the definitions of the rules, which this header describes in words. Also
- *   proved: a venue or a layer that a call wrote is sound, equal states of a venue are
- *   equal bytes, LEGGING_MOST_BYTES and LEGGING_SET_BYTES are enough, a set that was
- *   written reads back, and a list of messages does on a venue what its messages do there
- *   one by one. The proofs are about the source, not about the machine code that a compiler
- *   makes of it.
- *   Only tested, on the archives as built: the stack that a call needs, the read-only
+ *   Proved, whatever the bytes lent are, for every call: the number returned and every
+ *   byte written are those of the definitions of the rules, which this header tells in
+ *   words. Proved besides: a venue or a layer that a call wrote is sound, equal states of
+ *   a venue are equal bytes, the fixed memories below (LEGGING_MOST_BYTES,
+ *   LEGGING_SET_BYTES) are enough, and a set that was written reads back. The proofs speak
+ *   of the calls as they are written, not of the machine code that a compiler makes of them.
+ *   Tested only, on the archives as built: the stack that a call needs, the read-only
  *   constants of an archive and the functions that it calls, NULL with the length 0,
  *   memory at any alignment, and calls on several threads at once.
- *   Neither proved nor tested: memory that overlaps or that another thread writes, and a
- *   pointer to fewer bytes than its length says. The host must avoid these.
+ *   Neither: memory that overlaps or that another thread writes, and a pointer to fewer
+ *   bytes than its length says. A host has to see to these.
  *
  * BYTES
  *   Numbers are little-endian, without padding. A message or record is its length
@@ -95,63 +93,58 @@
  *
  *   The records end at the first zero length, or at the end of the report memory.
  *   Each message done has one answer, and after it what it did.
- *   The records 68 of legging orders that go together come by rising place,
- *   2 * series + side. So the messages and the length of the report memory fix every byte
- *   of it.
+ *   Legging orders that go together are told by rising place, 2 * series + side.
+ *   So the messages and the length of the report memory fix every byte of it.
  *
  *   A line of a feed is messages, each after its number (u32, not counted in the
  *   message's length). Numbers count from 1 and rise; a line may lack some.
  *
  * SETTINGS
- *   The increment of each series and the percentage of the band are edition 0 at first: 5
- *   in series 0 to 5, 10 in 6 and 7, and 5 percent. Kinds 7 and 8 set them from their own
- *   message on; an increment only while its series is closed and has no resting order or
- *   leg. Editions rise over both kinds. The venue keeps up to 32, each with the number of
- *   its message, so legging_settings can look up any message.
+ *   The increment of each series and the percentage of the band are edition 0 at
+ *   first: 5 in series 0 to 5, 10 in 6 and 7, and 5 percent. Kinds 7 and 8 set them
+ *   from their own message on; an increment only while its series is closed and has
+ *   no resting order or leg. Editions rise over both kinds. The venue keeps up to 32,
+ *   each with the number of its message, so it tells what held at any message.
  *
  * RESERVE
- *   An order of kind 9 shows a part of its quantity; an order of kind 1 shows all. Best
- *   prices, sizes, clear prices and the quantities of legging orders count only what is
- *   shown, and complex orders take only what is shown. An order that arrives meets, at
- *   each price from the best on, first all that is shown, by id, then, in trades of its
- *   own, all reserve by id, then the legging order; it takes with all of its quantity.
- *   Once a message's trades are done, before legging orders are tested, each order shows
- *   again the lesser of its shown quantity and what is left of it, and it keeps its turn.
- *   Record 71 has all that is left, shown or not.
+ *   An order of kind 9 shows a part of it; one of kind 1 shows all. Best prices, sizes,
+ *   clear prices and the quantities of legging orders count what is shown, and complex
+ *   orders take no other. An order that arrives meets, at each price from the best on,
+ *   first all that is shown, by id, then, in trades of its own, all reserve by id, then
+ *   the legging order; it takes with all of its quantity. Once a message's trades are
+ *   done, before legging orders are tested, each order shows again the lesser of its
+ *   shown quantity and what is left of it, and it keeps its turn. Record 71 tells all
+ *   that is left, shown or not.
  *
  * RATIOS
- *   An order of kind 2 has one contract of each leg; an order of kind 10 has as many as
- *   the leg's ratio. That is a unit: its limit, from -600,000 to 600,000, is the highest
- *   net of a unit, every net weighs each leg by its ratio, and all its quantities but
- *   those of record 65 are units. It crosses only with an order of the same ratio in each
- *   series and the other side, and legs in by whole units of what is shown at both best
- *   prices; where these cannot fill one, it trades no more. It has no legging orders. It
- *   shares the 32 places. So the contracts of each leg are ratio times the units of
- *   record 66.
+ *   An order of kind 2 is of one contract of each leg; one of kind 10 of as many as the
+ *   leg's ratio. That is a unit: its limit, from -600,000 to 600,000, is the highest net
+ *   of a unit, every net weighs each leg by its ratio, and all its quantities but those of
+ *   record 65 are units. It crosses only with an order of the same ratio in each series
+ *   and the other side, and legs in by whole units of what is shown at both best prices;
+ *   where these cannot fill one, it trades no more. It has no legging orders. It shares
+ *   the 32 places. So the contracts of each leg are ratio times the units of record 66.
  *
- *   Causes of record 68: 1 its displayed price is worse than the best regular price, 2
- *   the other leg is not there at its price and size, 3 its parent crossed or paired, 4
- *   its parent was cancelled, 5 its parent's limit is out of band, 6 a series is not
- *   open, 7 another legging order took its place, 8 a complex order reached it, 10 an
- *   order of kind 10 reached it where the sizes reached cannot fill a unit.
+ *   Causes of record 68: 1 its displayed price is worse than the best regular one, 2 the
+ *   other leg cannot be had, 3 its parent crossed or paired, 4 was cancelled, 5 is out of
+ *   band, 6 a series is not open, 7 another took its place, 8 a complex order reached it,
+ *   10 one of kind 10 did where the sizes that it reached cannot fill a unit.
  *
  * CEILING
- *   In each series the engine generates at most 20 legging orders in any 256 consecutive
- *   messages, refused messages counted. A legging order that takes another's place
- *   counts; at the ceiling the other stays. The venue keeps the message numbers of each
- *   series' last 20.
+ *   Of each series at most 20 legging orders are generated in any 256 consecutive
+ *   messages, refused ones counted. One that takes another's place counts; at the ceiling
+ *   the other stays. The venue keeps the message numbers of each series' last 20.
  *
  * LIMITED SWEEPS
- *   Kind 11 is a sweep of at most so many resting complex orders, beginning after the
- *   last id that a kind 11 looked at and going round by id. It generates for these
- *   orders, in the same order. Record 72, right after the answer, is the number of orders
- *   looked at: the lesser of the number in the message and the orders resting when it
- *   starts. An order that is gone by its turn counts as looked at.
+ *   Kind 11 is a sweep of so many resting complex orders: of those after the last id that
+ *   a kind 11 looked at, round by id. It generates for these, in the same order. Record
+ *   72, right after its 64, tells how many: the lesser of the number asked for and of the
+ *   orders resting when it starts. One that is gone by its turn was looked at too.
  *
  * SETS
  *   A set carries a venue and its message number over an upgrade: legging_write_set of
- *   the old engine writes it, legging_read_set of the new engine reads it, and later
- *   calls write the same records as without the upgrade. Its records:
+ *   the old engine writes it, legging_read_set of the new one reads it, and the calls
+ *   that follow write the records that they would have written without. Its records:
  *     - 80, with the number of the last message done and the last id accepted;
  *     - of each series in turn 5 and 4, status and away prices;
  *     - the editions by rising edition, as 7 or 8;
@@ -160,10 +153,9 @@
  *     - the legging orders by rising place, as 82;
  *     - of each series in turn its last 20 generations, oldest first, as 83;
  *     - the last id that a kind 11 looked at, if there is one, as 84.
- *   Zeros follow the set. The reader ends at a zero length, at one last zero byte or at
- *   the end of the memory. It also reads a short set, which begins with 81, has 1 in
- *   place of 9, and has no 7, 8, 83 and 84. That means edition 0, all size shown, none
- *   generated and no id looked at.
+ *   Zeros follow it. For the reader a zero length, one last zero byte or the end of the
+ *   memory ends it. It also reads a short set: begun by 81, with 1 for 9, and without 7, 8,
+ *   83 and 84. That means edition 0, all size shown, none generated and no id looked at.
  *
  * NUMBERS
  *   Each call returns one of these, and fails in no other way.
@@ -174,7 +166,7 @@
 #include <stddef.h>
 #include <stdint.h>
 
-/* The version of this header and of the archives; the file VERSION has the same one. */
+/* The version of this header and of the archives: the one that the file VERSION tells. */
 #define LEGGING_VERSION_MAJOR 0
 #define LEGGING_VERSION_MINOR 1
 #define LEGGING_VERSION_PATCH 0
@@ -195,25 +187,25 @@
 #define LEGGING_SERIES_IN_USE     12u /* an increment of a series that is not closed, or has a resting order or leg */
 #define LEGGING_EDITIONS_FULL     13u /* 32 editions are held already */
 #define LEGGING_EQUAL_RATIOS      14u /* the two ratios are equal */
-#define LEGGING_SHORT_MEMORY 15u /* the memory for a set is shorter than the set */
-#define LEGGING_BAD_SET      16u /* a record of a set is torn, missing, out of order, one too many, or of a kind or length that a set does not have */
+#define LEGGING_SHORT_MEMORY 15u /* the memory lent for a set is shorter than it */
+#define LEGGING_BAD_SET      16u /* a record of a set is torn, missing, out of order, one too many, or of a kind or length that the set has not */
 #define LEGGING_NO_PLACE     17u /* the venue's wait holds 8 messages, or the message is over 32 bytes */
 #define LEGGING_NO_VENUE     18u /* venue number above 3 */
 #define LEGGING_DIFFERS      19u /* both lines have the next number, but their bytes differ */
-#define LEGGING_LOST         20u /* neither line has the next number, but a line has a later one */
+#define LEGGING_LOST         20u /* neither line has the next number, though a later one stands on either */
 #define LEGGING_BAD_LINE     21u /* a line is torn, does not rise, or has a length below 4 or number 0 */
 
 #define LEGGING_VENUE_BYTES 4656u /* a venue held by a host */
-#define LEGGING_MOST_BYTES 10433u /* no message on a sound venue writes more */
+#define LEGGING_MOST_BYTES 10433u /* no message upon a sound venue writes more */
 #define LEGGING_SETTINGS_BYTES 9u /* eight increments and the percentage */
 #define LEGGING_SET_BYTES   5900u /* no set has more */
-#define LEGGING_NUMBER_BYTES   4u /* a u32 that a call writes: `written`, `number` or `done` */
+#define LEGGING_NUMBER_BYTES   4u /* a u32 that a call upon a set tells */
 
 /*
  * The tables of a venue: ..._AT is where in a venue's bytes a table begins, ..._PLACES how
- * many rows it has, ..._BYTES the length of a row. The comment at legging_message has the
- * fields of a row, in their order. So the regular order at place 3 begins at
- * LEGGING_REGULAR_AT + 3 * LEGGING_REGULAR_BYTES, and what it shows is in row 3 of
+ * many rows it has, ..._BYTES the length of a row. legging_message below tells the fields
+ * of a row, in their order. So the regular order at place 3 begins at
+ * LEGGING_REGULAR_AT + 3 * LEGGING_REGULAR_BYTES, and what it shows stands in row 3 of
  * LEGGING_SHOWN_AT.
  */
 #define LEGGING_REGULAR_AT            0u /* regular orders */
@@ -249,7 +241,7 @@
 #define LEGGING_MOST_MESSAGE 32u /* bytes of a message that waits */
 
 /* The parts of a lane, and of a layer, which is its lanes and one byte. */
-#define LEGGING_LANE_DONE_AT    LEGGING_VENUE_BYTES         /* messages done u32, after the venue */
+#define LEGGING_LANE_DONE_AT    LEGGING_VENUE_BYTES         /* messages done u32; the venue stands before it */
 #define LEGGING_LANE_WAITING_AT (LEGGING_LANE_DONE_AT + 4u) /* messages waiting u8 */
 #define LEGGING_LANE_PLACES_AT  (LEGGING_LANE_WAITING_AT + 1u) /* the places of the wait */
 #define LEGGING_PLACE_BYTES     (1u + LEGGING_MOST_MESSAGE) /* a place: length u8, then the message */
@@ -265,16 +257,16 @@ extern "C" {
  * Runs a message list from a fresh venue: no orders, all series open, no away
  * prices.
  *
- * The call takes the messages one by one. It answers a message that is refused with 2 to
- * 8 or 11 to 14 and goes on. Returns
+ * Messages are taken one by one. One that is refused with 2 to 8 or 11 to 14 is
+ * answered and passed over. Returns
  *   LEGGING_DONE     all messages were done, the refused ones included;
  *   LEGGING_TORN     1 to 3 bytes were left, or a length below 4 or above what was
  *                    left: all messages before were done, this one was answered,
  *                    and nothing after it was read;
  *   LEGGING_NO_ROOM  the run ended before the first message whose records do not
  *                    fit into the rest of `report`, or whose number would pass
- *                    4,294,967,295; nothing of that message was written. If `report`
- *                    was too short, run the whole list again with more.
+ *                    4,294,967,295; nothing of that message was written. Where it was
+ *                    the memory, run the whole list again with more.
  */
 uint8_t legging_run(const uint8_t *messages, size_t messages_length,
                     uint8_t *report, size_t report_length);
@@ -282,23 +274,23 @@ uint8_t legging_run(const uint8_t *messages, size_t messages_length,
 /*
  * Runs the messages that come over a main and a spare line, from a fresh venue.
  *
- * Both lines carry one list. The call takes the message of each number from 1 on from
- * `main`, or from `spare` if `main` lacks it, and does it as legging_run does, without a
- * copy. So two lines of one list, with no message lost from both, give what legging_run
- * gives for that list. Returns
+ * Both lines carry one list. The message of each number from 1 on is taken from `main`,
+ * or from `spare` where `main` lacks it, and done as in legging_run; it is not copied.
+ * So lines of one list that do not both lack a message give what legging_run gives of
+ * that list. Returns
  *   LEGGING_DONE      neither line has more: all messages were done, the refused ones
  *                     included;
  *   LEGGING_NO_ROOM   as in legging_run;
  *   LEGGING_DIFFERS   both lines have the next number, but not the same bytes;
- *   LEGGING_LOST      neither line has the next number, but a line has a later one. With
- *                     LEGGING_DIFFERS and LEGGING_LOST all messages before were done, and
+ *   LEGGING_LOST      neither line has the next number, though a later one stands on
+ *                     either. With both of these all messages before were done, and
  *                     nothing after;
  *   LEGGING_BAD_LINE  a line ends within a number or a message, has a number that is 0
  *                     or not above the one before it, or a length below 4, zeros at its
- *                     end too. The call checks both whole lines before it takes a
- *                     message: nothing was done, `report` is all zeros.
+ *                     end too. Both lines are looked at whole before a message is
+ *                     taken: nothing was done, `report` is all zeros.
  * LEGGING_DIFFERS and LEGGING_LOST come before LEGGING_NO_ROOM of the same message.
- * The call does not return LEGGING_TORN, since every message that it takes is whole.
+ * LEGGING_TORN is not returned, since every message taken is whole.
  */
 uint8_t legging_feed(const uint8_t *main, size_t main_length,
                      const uint8_t *spare, size_t spare_length,
@@ -311,18 +303,18 @@ uint8_t legging_feed(const uint8_t *main, size_t main_length,
  *   LEGGING_DONE     `venue` is the fresh venue;
  *   LEGGING_UNSOUND  `venue_length` is not LEGGING_VENUE_BYTES: `venue` as it was.
  *
- * Bytes that are all zero are a sound venue too, but with all series closed: there
- * orders are refused with LEGGING_CLOSED until messages open their series. A host that
- * began with zeros either calls legging_fresh, or opens the series as before.
+ * Bytes that are all zero are a sound venue too, but with all series closed: upon
+ * it orders are refused with LEGGING_CLOSED until messages open their series. A
+ * host that began with zeros either calls this, or opens the series as before.
  */
 uint8_t legging_fresh(uint8_t *venue, size_t venue_length);
 
 /*
- * Does one message on a venue that the host holds. `before` messages went before it,
- * and its own number is one more.
+ * Takes one message upon a venue that the host holds; `before` messages went
+ * before it, and its own number is one more.
  *
- * `venue` is LEGGING_VENUE_BYTES bytes: at first those that legging_fresh writes, later
- * those that the last call left there. They are, without padding:
+ * `venue` is LEGGING_VENUE_BYTES bytes: first those that legging_fresh writes, then
+ * hand over what the last call left there. They are, without padding:
  *
  *     128 regular orders   id u32, series u8, side u8, price u32, quantity u32
  *      32 complex orders   id u32, series u8, side u8, series u8, side u8, class u8,
@@ -343,10 +335,10 @@ uint8_t legging_fresh(uint8_t *venue, size_t venue_length);
  *         last id looked at by a kind 11 u32
  *
  * Held places come first, in rising id or edition; free places are zero. Equal states
- * are equal bytes, sound or not; that is proved. So a host may copy, keep and compare a
- * venue as bytes.
+ * are equal bytes, which is proved, sound or not: no byte of a venue is left unread. So a
+ * venue may be copied, kept and compared as bytes.
  *
- * The call reads only the first message of `message`. Returns
+ * Only the first message of `message` is read. Returns
  *   LEGGING_DONE     accepted: `venue` is the venue that follows, `report` the
  *                    message's answer and records;
  *   1 to 8, 11 to 14 refused: `venue` as it was, `report` the answer;
@@ -362,42 +354,8 @@ uint8_t legging_message(uint8_t *venue, size_t venue_length, uint32_t before,
                         uint8_t *report, size_t report_length);
 
 /*
- * Runs a message list on a venue that the host holds. `before` messages were done on the
- * venue before the first message of the list.
- *
- * `venue` is LEGGING_VENUE_BYTES bytes, as legging_message has them, and `done` is
- * LEGGING_NUMBER_BYTES bytes. The call takes the messages one by one, as legging_run does.
- * Returns
- *   LEGGING_DONE     the call did all messages, refused messages included;
- *   LEGGING_TORN     as in legging_run. The call answered the torn message and counts it in
- *                    `done`;
- *   LEGGING_NO_ROOM  the call ended before the first message whose records do not fit into
- *                    the rest of `report`, or whose number would pass 4,294,967,295. It did
- *                    and wrote nothing of that message. If the memory was too short, make
- *                    the next call with that message first. LEGGING_MOST_BYTES times the
- *                    number of messages are enough memory;
- *   LEGGING_UNSOUND  `venue_length` is not LEGGING_VENUE_BYTES or `done_length` is not
- *                    LEGGING_NUMBER_BYTES, the bytes are no sound venue, or the number of
- *                    the first message is not above the number of every edition and
- *                    generation kept: `venue` is as it was, `report` and `done` are all
- *                    zeros. The call checks this first, also for an empty list.
- * With the first three numbers `venue` is the venue that the messages done left, `report`
- * is their records, and `done` is how many messages were done, little-endian. The next
- * call's `before` is this `before` plus `done`.
- *
- * Proved: the call leaves the venue and writes the records that as many calls of
- * legging_message would, one after another; and legging_run writes the records that this
- * call writes on a fresh venue with `before` 0. So a host may cut its day into lists
- * between any two messages.
- */
-uint8_t legging_messages(uint8_t *venue, size_t venue_length, uint32_t before,
-                         const uint8_t *messages, size_t messages_length,
-                         uint8_t *report, size_t report_length,
-                         uint8_t *done, size_t done_length);
-
-/*
- * Writes the settings of a venue that held at message `number`, which may be any number,
- * also 0: of each setting the last that a message with that number or a lower one entered.
+ * Tells the settings of a venue that held at message `number`, any number, 0 too: of
+ * each the last that a message numbered no higher has entered.
  *
  * Returns
  *   LEGGING_DONE     `settings` is the increments of series 0 to 7, the percentage,
@@ -410,8 +368,8 @@ uint8_t legging_settings(const uint8_t *venue, size_t venue_length, uint32_t num
                          uint8_t *settings, size_t settings_length);
 
 /*
- * Writes the set of a venue. `number` is the count of messages done on it, which is the
- * number of the last message. 9 comes before 15.
+ * Writes the set of a venue; `number` messages were done upon it, so the last one's number
+ * is that. 9 comes before 15.
  *
  * `written` is LEGGING_NUMBER_BYTES bytes. Returns
  *   LEGGING_DONE          `set` is the set, and zeros after it; `written` is its length,
@@ -421,29 +379,28 @@ uint8_t legging_settings(const uint8_t *venue, size_t venue_length, uint32_t num
  *                         of an edition's or a generation's message is above `number`;
  *   LEGGING_SHORT_MEMORY  `set_length` is less than the set's length. LEGGING_SET_BYTES are
  *                         always enough.
- * Unless the call returns LEGGING_DONE, `set` and `written` are all zeros.
+ * Unless LEGGING_DONE is returned, `set` and `written` are all zeros.
  */
 uint8_t legging_write_set(const uint8_t *venue, size_t venue_length, uint32_t number,
                           uint8_t *set, size_t set_length,
                           uint8_t *written, size_t written_length);
 
 /*
- * Reads a set, whole or short. For the next message on its venue, pass the number read as
- * `before` to legging_message; or run the rest of the day with that number by one call of
- * legging_messages. 16 comes before 9, but the call checks the lengths of `venue` and
- * `number` first.
+ * Reads a set, whole or short. The next message upon its venue is one of legging_message
+ * with the number told as `before`. 16 comes before 9, but for the lengths of `venue` and
+ * `number`, which are looked at first.
  *
  * `number` is LEGGING_NUMBER_BYTES bytes. Returns
  *   LEGGING_DONE      `venue` is the venue of the set, `number` that of its last message,
  *                     little-endian;
- *   LEGGING_UNSOUND   `venue_length` is not LEGGING_VENUE_BYTES or `number_length` not
- *                     LEGGING_NUMBER_BYTES (then `venue` is as it was), the venue of the
- *                     set is not sound, or a message number in it is above its own;
+ *   LEGGING_UNSOUND   `venue_length` is not LEGGING_VENUE_BYTES (then `venue` is as it was),
+ *                     `number_length` is not LEGGING_NUMBER_BYTES, the venue of the set is
+ *                     not sound, or a message number in it is above its own;
  *   LEGGING_BAD_SET   a record is torn, missing, out of order, one too many, or of a kind or
- *                     length that a set does not have.
- * Unless the call returns LEGGING_DONE, `number` is all zeros and, but for a wrong length,
- * `venue` is the fresh venue: what it held before is lost. So do not read a set into the
- * memory of a venue that you still need.
+ *                     length that the set has not.
+ * Unless LEGGING_DONE is returned, `number` is all zeros and, but for a wrong `venue_length`,
+ * `venue` is the fresh venue: what it held before is lost, also where `number_length` alone
+ * is wrong. So read a set into memory that holds no venue that is still needed.
  */
 uint8_t legging_read_set(const uint8_t *set, size_t set_length,
                          uint8_t *venue, size_t venue_length,
@@ -458,21 +415,19 @@ uint8_t legging_read_set(const uint8_t *set, size_t set_length,
  * to the next that has a message waiting. So while no turn is ended by LEGGING_UNSOUND
  * or LEGGING_NO_ROOM, the message at the head of each wait is done by the fourth turn,
  * whatever arrives; a venue's messages keep their order; and a venue's records are those
- * of legging_message on that venue alone.
+ * of legging_message upon it alone.
  *
- * `layer` is LEGGING_LAYER_BYTES bytes: at first those that legging_layer_fresh writes,
- * later those that the last call left. They are, without padding, four lanes of
- * LEGGING_LANE_BYTES and the number of the venue served last u8. Each lane is
+ * `layer` is LEGGING_LAYER_BYTES bytes: first those that legging_layer_fresh writes, then
+ * hand over what the last call left. They are, without padding, four lanes of
+ * LEGGING_LANE_BYTES and the number of the venue served last u8; and of each lane
  *
  *       the venue, as legging_message has it
  *       messages done u32
  *       messages waiting u8
  *     8 places             length u8, 32 bytes; those in use come first, the head in front
  *
- * No call reads a free place, or the bytes of a place after its message. Each call tests
- * all four venues; a layer that a call wrote is always sound. In a layer that only calls
- * wrote, from legging_layer_fresh on, the bytes that no call reads are zero. So equal
- * states of such layers are equal bytes, which is proved.
+ * A place that is free, and what stands in a place after its message, is not read. A call
+ * tests all four venues; a layer that a call wrote is always sound.
  */
 
 /*
@@ -484,8 +439,8 @@ uint8_t legging_read_set(const uint8_t *set, size_t set_length,
 uint8_t legging_layer_fresh(uint8_t *layer, size_t layer_length);
 
 /*
- * Puts a message at the end of a venue's wait. Any bytes may wait, also none: their turn
- * answers them. Returns
+ * Puts a message at the end of a venue's wait. Any bytes may wait, none too: what they
+ * are is told at their turn. Returns
  *   LEGGING_DONE      the message waits;
  *   LEGGING_UNSOUND   `layer_length` is not LEGGING_LAYER_BYTES, or the layer is not sound: a
  *                     venue is not, the number of its next message is not above that of
@@ -493,22 +448,22 @@ uint8_t legging_layer_fresh(uint8_t *layer, size_t layer_length);
  *                     that waits is over 32 bytes, or the venue served last is above 3;
  *   LEGGING_NO_VENUE  `venue` is above 3;
  *   LEGGING_NO_PLACE  8 messages wait for it already, or `message_length` is above 32.
- * Unless the call returns LEGGING_DONE, `layer` is as it was.
+ * Unless LEGGING_DONE is returned, `layer` is as it was.
  */
 uint8_t legging_arrive(uint8_t *layer, size_t layer_length, uint32_t venue,
                        const uint8_t *message, size_t message_length);
 
 /*
  * Does the message at the head of the next venue's wait, as legging_message would with
- * the venue's own messages gone before. Returns the number plus 256 times the venue
+ * the venue's own messages gone before. Returns the number, and 256 times the venue
  * served: LEGGING_TURN_NUMBER and LEGGING_TURN_VENUE take them apart.
  *   LEGGING_DONE,         with a venue: its message was accepted, or refused as the number
  *   1 to 8, 11 to 14      says. It waits no more, and `report` is its answer and records;
  *   LEGGING_DONE          with LEGGING_NONE: nothing waits;
  *   LEGGING_UNSOUND       with LEGGING_NONE: as of legging_arrive;
  *   LEGGING_NO_ROOM       with LEGGING_NONE: the records do not fit, or the venue's message
- *                         numbers are used up. The next turn tries the same message again,
- *                         and the others wait. LEGGING_MOST_BYTES are always enough.
+ *                         numbers are used up. The same message is tried again by the next
+ *                         turn, and the others wait. LEGGING_MOST_BYTES are always enough.
  * With LEGGING_NONE `layer` is as it was, and `report` all zeros.
  */
 uint32_t legging_turn(uint8_t *layer, size_t layer_length, uint8_t *report, size_t report_length);

@@ -1,9 +1,9 @@
 #!/usr/bin/env python3
-"""Checks the papers (README.md, docs/*.md, docs/requests/*.md) against the tree.
+"""Holds the papers (README.md, docs/*.md, docs/requests/*.md) to the tree.
 
-    tests/papers.py [--write | --names | --rule RULE...]
+    tests/papers.py [--names | --write]
 
-It prints each fault as FILE:LINE: what is wrong, and ends with status 1 if there is one. It checks that
+Says each fault as FILE:LINE: what is wrong, and ends with status 1 where there is one. It asks that
 
 - every name in backticks exists:
     "Words: `isPrice`"          declared in crates/rules/specs/Words.antt (of Trials also in crates/trials/specs); the word holds to the end of the
@@ -14,32 +14,32 @@ It prints each fault as FILE:LINE: what is wrong, and ends with status 1 if ther
     `Soundness.NeverNine`       declared in a file Soundness.antt; `levels::load` is a function of the crate levels
     "`judge` (settling)"        a function, type, definition or law of that crate
     `isPrice`                   declared anywhere in crates/, host/ or include/
-  In a table, a column headed "Code" has functions of crates/*/src alone, a column headed by one or more crates has their functions, and a column
-  headed by a file has that file's names. Code of more than a name is not checked, but "step (messages)" between lines of ``` is a function of that crate;
-- the columns "Definition", "Trial", "Edit" and "Test" of docs/CROSSWALK.md are what the sources say. A line "rule: S4, (g)7" in a comment gives the
-  rules of the definition, trial, must-fail edit or test below it. Every rule there has a row, and every edit has a rule. A definition of
-  crates/rules/specs without a rule is used by another definition or by a proof;
-- the tables of docs/PROMISES.md are the theorems and sentences of crates/promises/proofs/Main.antt;
-- every link, and every path beginning with crates/, host/, docs/, tests/, include/, examples/ or bin/, leads to a file (NAME and the like stand for any);
-- every row ("W3") that the columns "01", "Note" and "Difference" name has a line under "No." or begins a quotation under "01", and every
-  "Reading 14" is a number of docs/DECISIONS.md, section 2;
+  In a table a column headed "Wrong edit" has must-fail edits after their crate, one headed "Test" functions after their file
+  in host/sessions/tests/all, and one headed "Code" functions of crates/*/src alone; one headed by a crate, or by several, has
+  their functions; one headed by a file has that file's names; and in one headed "File" each row begins with the file that its
+  names are of. Code of more than a name is not looked at, but "step (messages)" between lines of ``` is a function of that crate;
+- a number in brackets after a name or a quotation in CROSSWALK is its line. In a column headed "Definition" or "Definitions" it is the
+  line that declares the name; in one headed "Trial" a line of crates/trials/specs/Trials.antt, or after a star of
+  crates/rules/specs/Trials.antt, that quotes the words or begins with them, and of "Example 3" the line of crates/trials/specs/Filing.antt;
+- every path beginning with crates/, host/, docs/, tests/, include/, examples/ or bin/ exists (NAME and the like stand for any);
+- every definition of crates/rules/specs, but those of Trials and Opened, is named after its file in docs/CROSSWALK.md or
+  docs/requests/*.md;
+- every row ("W3") that the columns "01", "In 01", "Definitions", "Rule" and "Difference" name has a line under "No." or begins a quotation
+  under "01", and every "Reading 14" is a number of docs/DECISIONS.md, section 2;
 - in crates.txt a crate uses only crates above it and has a line that says what it is for, and README's table "Layers" has its layers and crates;
-- no line outside tables and code is longer than 160 characters, and no path of a machine is in a paper;
-- no paper is longer than MOST below.
+- no line outside tables and code is longer than 160 characters, and no path of a machine is told;
+- docs/ without docs/requests/ is at most 104,000 bytes, and each note to a request (docs/requests/a.md and so on) at most 3,000.
 
---write first puts the generated columns and tables in. --names prints what the papers may name, a line for each file or crate. --rule prints the
-definitions, trials, edits and tests of a rule or a clause, each with its file and line.
+--names prints what the papers may name, a line for each file or crate. --write puts the lines of the sources into CROSSWALK
+first, where there is one line to put.
 """
 import glob
 import os
 import re
 import sys
 
-# The most bytes of each paper, of each note to a request, and of all docs/*.md.
-MOST = {"README.md": 5_120, "docs/ARCHITECTURE.md": 6_800, "docs/AUDIT.md": 2_700, "docs/BENCHMARKS.md": 6_000, "docs/CROSSWALK.md": 28_000,
-        "docs/DECISIONS.md": 15_900, "docs/PROMISES.md": 13_500, "docs/TESTING.md": 10_000}
+MOST_BYTES = 104_000
 MOST_PER_NOTE = 3_000
-MOST_BYTES = 80_000
 MOST_LINE = 160
 # In these papers a name without a word before it must exist as well.
 EXACT = ("README.md", "docs/CROSSWALK.md", "docs/PROMISES.md", "docs/AUDIT.md", "docs/ARCHITECTURE.md", "docs/DECISIONS.md", "docs/requests/")
@@ -49,16 +49,15 @@ FOREIGN = {"ensures", "requires", "main", "memcpy", "memset", "valgrind", "rt", 
 NOT_ASKED = {"Trials", "Opened", "Lib"}
 MACHINE = re.compile(r"(?<![\w.~-])/(?:tmp|work|root|opt|home|usr|var|etc|mnt)\b")
 PATH = re.compile(r"(?<![\w/.-])(?:crates|host|docs|tests|include|examples|bin)/[\w./+*-]*[\w*]")
-LINK = re.compile(r"\]\(([^)#:\s]+)\)")
 SPAN = re.compile(r"`([^`]+)`")
 WORD = re.compile(r"(?:\b([a-z_]+) )?\b(\w+): (?=`)")
 ROW = re.compile(r"(?<![\w(])([A-Z])(\d+)\b")
 READING = re.compile(r"\bReadings? (\d+(?:(?:, | to | and )\d+)*)")
 OF_CRATE = re.compile(r"`\w+`(?:(?:, | and )`\w+`)* \(([a-z_]+)\)")
 DRAWN = re.compile(r"\b(\w+) \(([a-z_]+)\)")
-RULE = re.compile(r"\s*(?:--|#|//) rule: (.+)")
-GENERATED = ("Definition", "Trial", "Edit", "Test")
-MAIN = "crates/promises/proofs/Main.antt"
+COLUMNS_WITH_LINES = ("Definition", "Definitions", "Trial")
+# What a line number stands after in CROSSWALK, and the file word that says of which file a name is.
+LINED = re.compile(r'(?:\b([a-z_]+) )?\b([A-Z]\w*): (?=`)|`([^`]+)` \(\d+\)|(\*?)"([^"]+)" \(\d+\)|Example (\d+) \(\d+\)')
 DECLARED = re.compile(r"(\s*)((?:(?:pub|abbrev|unfoldable|opaque|private|record|data)\s+)*)([^\s:(){}\[\]]+)(?:\s+[({].*?)?\s+:(?:\s|$)")
 NAME = re.compile(r"[^\W\d][\w·⟫'-]*|_[^\s`.()]+_")
 
@@ -84,6 +83,17 @@ def antt_names(path):
     return every, own
 
 
+def declared_at(path, name):
+    """The lines of a file of definitions that declare a name."""
+    lines = enumerate(read(path).split("\n"), 1) if os.path.exists(path) else ()
+    return [n for n, line in lines if (found := DECLARED.match(line)) and found[3] == name]
+
+
+def said_at(path, words):
+    """The lines of a file whose comment says these words."""
+    return [n for n, line in enumerate(read(path).split("\n"), 1) if re.match(r"\s*-- ", line) and words in line]
+
+
 def code_names(path):
     """The functions and types of a source file, and its types' fields and cases."""
     text = read(path)
@@ -102,6 +112,7 @@ class Tree:
         self.crates = {}     # crate -> names of its code, definitions and laws
         self.functions = {}  # crate -> names of its code
         self.edits = {}      # crate -> must-fail edits
+        self.tests = {}      # stem -> functions of host/sessions/tests/all/stem.rs
         for root in sorted(glob.glob("crates/*")):
             self.read_crate(root)
         self.all = set().union(*self.crates.values(), *self.edits.values(), self.crates, *map(set, self.files))
@@ -110,6 +121,8 @@ class Tree:
                 self.all |= code_names(path) | {os.path.basename(path)[:-3]}
         self.all |= {os.path.basename(p) for p in glob.glob("host/*")}
         self.all |= set(re.findall(r"\b\w+", read("include/legging.h")))
+        for path in glob.glob("host/sessions/tests/all/*.rs"):
+            self.tests[os.path.basename(path)[:-3]] = code_names(path)
 
     def read_crate(self, root):
         crate = os.path.basename(root)
@@ -140,6 +153,10 @@ class Tree:
 
     def of_word(self, crate, word, column):
         """What the names after a word may be, with what to call it; None where it is no word of ours."""
+        if column == "Wrong edit" and word in self.edits:
+            return self.edits[word], f"no edit in crates/{word}/must-fail"
+        if column == "Test" and word in self.tests:
+            return self.tests[word], f"no function of host/sessions/tests/all/{word}.rs"
         if column == "Code" and word in self.functions:
             return self.functions[word], f"no function of crates/{word}/src"
         if word == "Type":
@@ -156,120 +173,18 @@ class Tree:
 
 
 def rows_of(cell):
-    """The rules that a cell of the column "No." stands for: one, several, or from one to another."""
-    rows = set(re.findall(r"(?<![\w(])[A-Z]\d+\b|\([a-n]\)\d+", cell))
-    for letter, low, high in re.findall(r"([A-Z]|\([a-n]\))(\d+)–\1(\d+)", cell):
+    """The rows that a cell of the column "No." stands for: one, several, or from one to another."""
+    rows = {found[0] for found in ROW.finditer(cell)}
+    for letter, low, high in re.findall(r"([A-Z])(\d+)–[A-Z](\d+)", cell):
         rows |= {f"{letter}{n}" for n in range(int(low), int(high))}
     return rows
-
-
-def rules_of(row):
-    """The rules of a row of CROSSWALK: its numbers; else its clause, the sentences of 01 that it quotes, and the one of 02 that the cell begins with."""
-    if "No." in row:
-        return rows_of(row["No."])
-    return {row["Clause"].split(' "')[0], *re.findall(r'(?<![\w(])([A-Z]\d+) "', row["01"]), *re.findall(r"^\([a-n]\)\d+", row["01"])}
-
-
-def rules_named(word):
-    """The rules of a word: S4 and (g)7 are rules; of a clause, as (C)(4)(ii), those of its rows in CROSSWALK."""
-    found = [word]
-    for line in read("docs/CROSSWALK.md").split("\n"):
-        if line.startswith(f'| {word} "'):
-            cells = [cell.strip() for cell in line.split("|")[1:3]]
-            found += sorted(rules_of(dict(zip(("Clause", "01"), cells))) - set(found), key=rank)
-    return found
-
-
-class Sources:
-    """What the lines "rule: …" of the sources say: of each rule, the files, lines and names under each generated column."""
-
-    def __init__(self):
-        self.of = {}       # rule -> column -> [(file, line, name)]
-        self.faults = []   # file, line, text
-        order = [line.split(":")[0] for line in read("crates.txt").split("\n") if re.match(r"[a-z_]+:", line)]
-        for crate in sorted(order, key=lambda crate: (crate != "rules", order.index(crate))):
-            specs = glob.glob(f"crates/{crate}/specs/*.antt")
-            first = re.findall(r"^pub mod (\w+)", read(f"crates/{crate}/specs/Lib.antt"), re.M) if specs else []
-            for path in sorted(glob.glob(f"crates/{crate}/src/*.rt")) + [f"crates/{crate}/specs/{stem}.antt" for stem in first]:
-                self.file(path)
-            for path in sorted(glob.glob(f"crates/{crate}/must-fail/*.edit")):
-                self.file(path)
-                if not RULE.search(read(path)):
-                    self.faults.append((path, 1, "this edit has no line \"# rule: …\""))
-        for path in sorted(glob.glob("host/sessions/tests/all/*.rs")):
-            self.file(path)
-
-    def file(self, path):
-        lines = read(path).split("\n")
-        for at, line in enumerate(lines):
-            if not (found := RULE.match(line)):
-                continue
-            column, number, name = self.below(path, lines, at + 1)
-            if not column:
-                self.faults.append((path, at + 1, "no definition, trial, edit or test stands below this rule"))
-            for rule in found[1].split(", "):
-                self.of.setdefault(rule, {}).setdefault(column, []).append((path, number, name))
-
-    def below(self, path, lines, at):
-        """The column, line and name of what stands at or below a line."""
-        if path.endswith(".edit"):
-            return "Edit", at + 1, os.path.basename(path)[:-5]
-        for number, line in enumerate(lines[at:at + 4], at + 1):
-            if line.lstrip().startswith("--"):
-                example = re.match(r"\s*-- (\d+)\. ", line) if path.endswith("Filing.antt") else None
-                return "Trial", number, f"Example {example[1]}" if example else ""
-            if found := re.match(r"(?:pub )?(?:struct|enum|fn) (\w+)", line):
-                return "Test" if path.startswith("host/") else "Definition", number, found[1]
-            if path.endswith(".antt") and (found := DECLARED.match(line)):
-                return "Definition", number, found[3]
-        return None, at, ""
-
-    def cell(self, rules, column, lined):
-        """The text of a cell of a generated column, for a row of these rules; `lined`: with the lines of definitions."""
-        found = []
-        for rule in rules:
-            found += [one for one in self.of.get(rule, {}).get(column, []) if one not in found]
-        if column == "Definition":
-            groups = {}
-            for path, number, name in found:
-                crate, stem = path.split("/")[1], os.path.basename(path)[:-5]
-                word = "Type" if path.endswith(".rt") else stem if crate == "rules" else f"{crate} {stem}"
-                groups.setdefault(word, []).append((number, name))
-            return ". ".join(f"{word}: " + ", ".join(f"`{name}` {number}" if lined else f"`{name}`" for number, name in sorted(names)) for word, names in groups.items())
-        if column == "Trial":
-            return ", ".join(f"{name} ({number})" if name else ("*" if "/rules/" in path else "") + str(number) for path, number, name in found)
-        if column == "Edit":
-            groups = {}
-            for path, _, name in found:
-                groups.setdefault(path.split("/")[1], []).append(f"`{name}`")
-            return "; ".join(f"{crate}: {', '.join(names)}" for crate, names in groups.items())
-        return ", ".join(f"{os.path.basename(path)[:-3]} {number}" for path, number, _ in found)
-
-    def print_rule(self, rule):
-        for column in GENERATED:
-            for path, number, name in self.of.get(rule, {}).get(column, []):
-                print(f"{rule}  {column:10}  {path}:{number}  {name}".rstrip())
-
-
-def theorems():
-    """The sections of Main: the theorems of each with their sentences."""
-    sections, said = {}, []
-    for line in read(MAIN).split("\n"):
-        if found := re.fullmatch(r"-- (.+?) -{5,}", line):
-            rows = sections.setdefault(found[1], [])
-        elif line.startswith("-- "):
-            said.append(line[3:])
-        elif found := re.match(r"pub (\S+) :", line):
-            rows.append((found[1], " ".join(said)))
-        if not line.startswith("-- ") or line.endswith("-----"):
-            said = []
-    return sections
 
 
 class Papers:
     def __init__(self, tree):
         self.tree = tree
         self.faults = []
+        self.named = {}  # stem -> definitions named after their file
         self.rows = set()
         self.said = []   # rows that are named: path, line, row
 
@@ -290,7 +205,7 @@ class Papers:
                 continue
             self.paths(path, number, line)
             if prose and (line.startswith("|") or not line.strip() or re.match(r"\s*(?:[-*#]|\d+\.) ", line)):
-                self.text(path, prose, "")
+                self.text(path, prose, "", "")
                 prose = []
             if not line.startswith("|"):
                 header = []
@@ -314,26 +229,23 @@ class Papers:
             if column == "01":
                 self.rows |= {found[1] for found in re.finditer(r'(?<![\w(])([A-Z]\d+) "', cell)}
         for column, cell in zip(header, cells):
-            if column in ("01", "Note", "Difference"):
+            if column in ("01", "In 01", "Definitions", "Rule", "Difference"):
                 self.said += [(path, number, found[0]) for found in ROW.finditer(SPAN.sub("", cell))]
-            if column not in GENERATED:
-                self.text(path, [(number, cell)], column)
+            before = cells[0] if header[0] == "File" and column != "File" else column
+            self.text(path, [(number, cell)], column, before)
 
     def paths(self, path, number, line):
-        for target in LINK.findall(line):
-            if not os.path.exists(os.path.join(os.path.dirname(path), target)):
-                self.fault(path, number, f"no such file: {target}")
         for found in PATH.finditer(line):
             if re.search(r"[A-Z]{3,}(?!\w*\.md)", found[0]) or found[0].startswith("docs/requests"):
                 continue
             if not glob.glob(found[0]) and not found[0].startswith("host/target"):
                 self.fault(path, number, f"no such file: {found[0]}")
 
-    def text(self, path, lines, column):
-        """The names of a cell, under the heading of its column, or of a paragraph's numbered lines."""
+    def text(self, path, lines, column, heading):
+        """The names of a cell or of a paragraph's numbered lines; `heading` is what the column or row is headed by."""
         for sentence in re.split(r"(?<=\.) (?=[A-Z(a-z`])", " ".join(line for _, line in lines)):
             self.of_crates(path, lines[0][0], sentence)
-            scope = self.headed(column)
+            scope, stem = self.headed(heading)
             end = 0
             for span in SPAN.finditer(sentence):
                 words = list(WORD.finditer(sentence, end, span.start() + 1))
@@ -341,9 +253,10 @@ class Papers:
                     crate, word = words[-1].groups()
                     if (found := self.tree.of_word(crate, word, column)) is not None:
                         scope = found
+                        stem = word if crate not in self.tree.crates or crate == "rules" else None
                 end = span.end()
                 number = next((n for n, line in lines if span[0] in line), lines[0][0])
-                self.name(path, number, span[1], scope)
+                self.name(path, number, span[1], scope, stem)
 
     def of_crates(self, path, number, sentence):
         """The names before a crate in brackets: `cause_order`, `verdict_number` (arithmetic)."""
@@ -353,19 +266,21 @@ class Papers:
                     self.fault(path, number, f"`{name}`: not in the crate {found[1]}")
 
     def headed(self, heading):
-        """What the names of a column are where no word stands before them."""
+        """What the names of a column are where no word stands before them, and the file of the rules that they are then of."""
         if heading == "Code":
-            return set().union(*self.tree.functions.values()), "no function of crates/*/src"
+            return (set().union(*self.tree.functions.values()), "no function of crates/*/src"), None
         crates = heading.split(", ")
         if all(crate in self.tree.functions for crate in crates):
             names = set().union(*(self.tree.functions[crate] for crate in crates))
-            return names, "no function of " + " or ".join(f"crates/{crate}/src" for crate in crates)
+            return (names, "no function of " + " or ".join(f"crates/{crate}/src" for crate in crates)), None
         words = heading.split()
         if len(words) == 2 and tuple(words) in self.tree.files:
-            return self.tree.files[tuple(words)], f"not declared in {words[0]}: {words[1]}.antt"
-        return None
+            return (self.tree.files[tuple(words)], f"not declared in {words[0]}: {words[1]}.antt"), None
+        if len(words) == 1 and words[0] in self.tree.specs:
+            return (self.tree.of_file(None, words[0]), f"not declared in rules: {words[0]}.antt"), words[0]
+        return None, None
 
-    def name(self, path, number, name, scope):
+    def name(self, path, number, name, scope, stem):
         if parts := re.fullmatch(r"([A-Z]\w*)\.([^\s.]+)", name):
             if (names := self.tree.of_stem(parts[1])) is not None and parts[2] not in names | {"antt"}:
                 self.fault(path, number, f"`{name}`: {parts[1]}.antt does not declare {parts[2]}")
@@ -379,6 +294,8 @@ class Papers:
         if scope is not None:
             if name not in scope[0]:
                 self.fault(path, number, f"`{name}`: {scope[1]}")
+            elif stem:
+                self.named.setdefault(stem, set()).add(name)
         elif path.startswith(EXACT) and name not in self.tree.all | FOREIGN:
             self.fault(path, number, f"`{name}`: no such name in crates/, host/ or include/")
 
@@ -391,68 +308,59 @@ class Papers:
                 for reading in set(re.findall(r"\d+", found[1])) - known:
                     self.fault(path, number, f"reading {reading} is no number of docs/DECISIONS.md, section 2")
 
-    def crosswalk(self, path, sources, write):
-        """That the generated columns are what the sources say, and that each rule of the sources has a row; `write` puts the columns in."""
-        header, lines, known = [], read(path).split("\n"), set()
+    def lined(self, path, write):
+        """That the numbers after names and quotations are the lines of the sources; `write` puts these in."""
+        header, lines = [], read(path).split("\n")
         for at, line in enumerate(lines):
-            cells = [cell.strip() for cell in re.split(r"(?<!\\)\|", line)[1:-1]]
+            cells = re.split(r"(?<!\\)\|", line)
             if not line.startswith("|"):
                 header = []
             elif not header:
-                header = cells
-            elif not set(line) <= set("|-: ") and len(cells) == len(header):
-                row = dict(zip(header, cells))
-                rules = rules_of(row)
-                known |= rules
-                row.update({column: sources.cell(sorted(rules, key=rank), column, "Clause" in row) for column in GENERATED if column in row})
-                lines[at] = "".join(f"| {cell} " if cell else "| " for cell in row.values()) + "|"
-                if lines[at] != line and not write:
-                    self.fault(path, at + 1, f"not what the sources say of {', '.join(sorted(rules, key=rank))} (--write puts it in)")
+                header = [cell.strip() for cell in cells]
+            else:
+                right = [self.with_lines(path, at + 1, cell) if column in COLUMNS_WITH_LINES else cell for column, cell in zip(header, cells)]
+                if right != cells and write:
+                    lines[at] = "|".join(right)
+                elif right != cells:
+                    self.fault(path, at + 1, f"not the lines of the sources (--write puts them in): {'|'.join(right)}")
         if write:
             with open(path, "w", encoding="utf-8") as f:
                 f.write("\n".join(lines))
-        self.faults += [f"{file}:{line}: {text}" for file, line, text in sources.faults]
-        for rule in sorted(set(sources.of) - known):
-            for places in sources.of[rule].values():
-                self.fault(places[0][0], places[0][1], f"docs/CROSSWALK.md has no row for the rule {rule}")
 
-    def promises(self, path, write):
-        """That the tables of theorems are those of Main."""
-        text = read(path)
-        parts = re.split(r"^(?=## )", text, flags=re.M)
-        left = theorems()
-        for at, part in enumerate(parts):
-            title = part.split("\n")[0][3:]
-            if title in left:
-                rows = "".join(f"| `{name}` | {said} |\n" for name, said in left.pop(title))
-                parts[at] = re.sub(r"(?<=\|---\|---\|\n)(?:\|.*\n)*", lambda _: rows, part, count=1)
-        for title in left:
-            self.fault(path, 1, f"no section {title}, which is one of {MAIN}")
-        if "".join(parts) != text and write:
-            with open(path, "w", encoding="utf-8") as f:
-                f.write("".join(parts))
-        elif "".join(parts) != text:
-            self.fault(path, 1, f"the tables are not the theorems of {MAIN} (--write puts them in)")
+    def with_lines(self, path, number, cell):
+        """A cell with the lines of the sources."""
+        file = "crates/rules/specs/Lib.antt"
+
+        def placed(found):
+            nonlocal file
+            crate, stem, name, star, words, example = found.groups()
+            if stem:
+                file = f"crates/{crate if crate in self.tree.crates else 'rules'}/specs/{stem}.antt"
+                return found[0]
+            if name:
+                at = declared_at(file, name)[:1]
+            elif words:
+                trials = f"crates/{'rules' if star else 'trials'}/specs/Trials.antt"
+                at = said_at(trials, f'"{words}') or said_at(trials, f"-- {words}")
+            else:
+                at = said_at("crates/trials/specs/Filing.antt", f"-- {example}. ")
+            if len(at) == 1:
+                return re.sub(r"\(\d+\)$", f"({at[0]})", found[0])
+            if not found[0].endswith(tuple(f"({n})" for n in at)):
+                self.fault(path, number, f"{found[0]}: the lines of the sources that have it: {at}")
+            return found[0]
+
+        return LINED.sub(placed, cell)
 
     def rows_named(self):
         for path, number, row in self.said:
             if row not in self.rows:
                 self.fault(path, number, f"there is no row {row}")
 
-    def definitions(self, sources):
-        """That a definition of the rules has a rule, or is used by another definition or by a proof."""
-        ruled = {name for columns in sources.of.values() for path, _, name in columns.get("Definition", []) if path.startswith("crates/rules/specs")}
-        used = {}  # name -> files that have it outside comments, imports and the lines that it begins
-        for path in glob.glob("crates/*/specs/*.antt") + glob.glob("crates/*/proofs/**/*.antt", recursive=True):
-            for line in read(path).split("\n"):
-                if not re.match(r"use |pub mod |\s*--", line):
-                    first = re.match(r"(?:(?:pub|abbrev|unfoldable|record|data) )*(\S+)", line)
-                    for name in set(re.findall(r"[^\s(){}.,;]+", line)) - {first[1] if first else ""}:
-                        used.setdefault(name, set()).add(path)
+    def definitions(self):
         for stem, names in sorted(self.tree.specs.items()):
-            for name in sorted(names - ruled - set(used)):
-                if not re.match("_|if_", name):
-                    self.fault(f"crates/rules/specs/{stem}.antt", 1, f"`{name}` has no line \"-- rule: …\", and nothing uses it")
+            for name in sorted(names - self.named.get(stem, set())):
+                self.fault("docs/CROSSWALK.md", 1, f"{stem}: `{name}` is defined in crates/rules/specs/{stem}.antt and not named")
 
     def layers(self):
         """That crates.txt is in order, with a line on each crate, and that README's table of layers is its layers, the last one first."""
@@ -478,23 +386,13 @@ class Papers:
             self.fault("README.md", 1, "the rows of README's layers are not in the order of crates.txt, the last layer first")
 
     def size(self):
-        papers = glob.glob("docs/*.md")
-        notes = {path: MOST_PER_NOTE for path in sorted(glob.glob("docs/requests/[a-z].md"))}
-        for path, most in {**MOST, **notes}.items():
-            if os.path.getsize(path) > most:
-                self.fault(path, 1, f"{os.path.getsize(path)} bytes, at most {most}")
-        for path in set(papers) - set(MOST):
-            self.fault(path, 1, "MOST in tests/papers.py has no length for it")
-        total = sum(map(os.path.getsize, papers))
+        total = sum(os.path.getsize(p) for p in glob.glob("docs/*.md"))
         if total > MOST_BYTES:
             self.fault("docs", 0, f"{total} bytes, at most {MOST_BYTES}")
+        for path in sorted(glob.glob("docs/requests/[a-z].md")):
+            if os.path.getsize(path) > MOST_PER_NOTE:
+                self.fault(path, 1, f"{os.path.getsize(path)} bytes, at most {MOST_PER_NOTE}")
         return total
-
-
-def rank(rule):
-    """Sorts rules: S2 before S10, and those of 01 before those of 02."""
-    letters, number = re.fullmatch(r"(.*?)(\d*)", rule).groups()
-    return letters.startswith("("), letters, int(number or 0)
 
 
 def main():
@@ -502,18 +400,10 @@ def main():
     if words in (["--help"], ["-h"]):
         print(__doc__.strip())
         return 0
-    if words not in ([], ["--names"], ["--write"]) and words[:1] != ["--rule"]:
+    if words not in ([], ["--names"], ["--write"]):
         print(f"papers.py: {' '.join(words)} is not known; try --help", file=sys.stderr)
         return 2
     os.chdir(os.path.join(os.path.dirname(os.path.abspath(__file__)), ".."))
-    sources = Sources()
-    if words[:1] == ["--rule"]:
-        found = [rule for word in words[1:] for rule in rules_named(word) if rule in sources.of]
-        for rule in found:
-            sources.print_rule(rule)
-        if not found:
-            print(f"papers.py: no source has the rule {' '.join(words[1:])}; docs/CROSSWALK.md has the rules", file=sys.stderr)
-        return 0 if found else 1
     tree = Tree()
     if words == ["--names"]:
         for (crate, stem), names in sorted(tree.files.items()):
@@ -522,12 +412,12 @@ def main():
             print(f"{crate}: code: {' '.join(sorted(names))}")
         return 0
     papers = Papers(tree)
-    papers.crosswalk("docs/CROSSWALK.md", sources, bool(words))
-    papers.promises("docs/PROMISES.md", bool(words))
+    papers.lined("docs/CROSSWALK.md", bool(words))
+    # CROSSWALK and the requests' pages alone count as naming a definition.
     for path in ["docs/CROSSWALK.md"] + sorted(glob.glob("docs/requests/*.md")):
         papers.paper(path)
         papers.readings(path)
-    papers.definitions(sources)
+    papers.definitions()
     for path in ["README.md"] + sorted(set(glob.glob("docs/*.md")) - {"docs/CROSSWALK.md"}):
         papers.paper(path)
     papers.rows_named()

@@ -1,14 +1,14 @@
 #!/usr/bin/env python3
-"""Measures the time of `rt prove` from nothing before and after each request of document 02.
+"""Takes the time of `rt prove` from nothing before and after each request of document 02.
 
     tests/prove_times.py [--only LETTERS] [--out FILE]
 
-The script clones each commit of the list below into a temporary folder and proves it there, one after another, with RT_JOBS as it is set.
-Nothing else may run on the machine meanwhile. It prints a row of a table for each request as soon as both of its commits are timed: wall
-time and processor time of its children, before and after. A commit takes about eight minutes on two cores.
+Each commit of the list below is cloned into a temporary folder and proved there, one after another, with RT_JOBS as it is set. Nothing else
+may run on the machine meanwhile. Prints a row of a table for each request as soon as both of its commits are timed: wall time and processor
+time of its children, before and after. About eight minutes a commit on two cores.
 
---only LETTERS   only these requests, for example --only abf
---out FILE       also write the table to FILE, again after each row
+--only LETTERS   these requests alone, as --only abf
+--out FILE       the table into FILE too, written again after each row
 """
 import argparse
 import os

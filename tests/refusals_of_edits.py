@@ -1,22 +1,22 @@
 #!/usr/bin/env python3
-"""Prints why the prover refused each must-fail edit: at a fact, or at a proof text that no longer fits.
+"""Says by what the prover refused each must-fail edit: by a fact, or by a proof text that no longer fits.
 
     rt must-fail [CRATE ...]          (or rt ci: both leave a log of each edit under target/must-fail)
     tests/refusals_of_edits.py [--target FOLDER] [CRATE ...]
 
 The first error of each edit's log is one of three:
 
-- at a fact: two types differ, a goal does not follow, or it is not proved that a contract holds. The edit changes the
-  statement to prove, and the proof there does not prove the new one. An edit is also of this kind if any statement by
-  computation fails (a crate's Trials or Witness): that is a refusal of its meaning.
+- at a fact: two types differ, a goal does not follow, or it is not proved that a contract holds. The statement asked for
+  is another one with the edit, and what stood there does not prove it. An edit is also of this kind where any
+  statement by computation fails (a crate's Trials or Witness): that is a refusal of its meaning.
 - at a proof text: a name or a field is missing, or a text does not parse or has another number of arguments or cases.
-  This says nothing of the fact that the edit turns, and the edit needs another form.
-- another, such as a rewriting that finds nothing to rewrite: the goal is another one, and a reader must check whether it
-  is false.
+  This says nothing of the fact that the edit turns, and the edit wants another form.
+- another, as a rewriting that finds nothing to rewrite: the goal is another one, and a reader must look whether it is
+  false.
 
-For an edit that is refused at a fact, too, a reader says beside the edit whether the statement is false.
-The script prints the counts, with the names and the first errors of the second and third kind. The status is 1 if there
-are any of them, or if an edit has no log; 2 for a wrong command line or if there are no logs at all.
+Of an edit that is refused at a fact, too, a reader says whether the statement is false, beside the edit.
+The counts are printed, with the names and the first errors of the second and third kind. The status is 1 where there
+are any of them, or an edit has no log; 2 for a wrong command line or where there are no logs at all.
 """
 import argparse
 import glob
@@ -35,7 +35,7 @@ FACT = re.compile(
 
 
 def error_of(log):
-    """The error of a log that says most, from its place in the crate on: one at a statement by computation, or the first."""
+    """The error of a log that tells most, from its place in the crate on: one at a statement by computation, or the first."""
     lines = log.split("\n")
     found = [line for line in lines if COMPUTED.search(line)]
     found += [line for line in lines if ": error" in line]

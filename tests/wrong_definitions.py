@@ -1,42 +1,42 @@
 #!/usr/bin/env python3
-"""Tries wrong definitions, one at a time, and prints what refuses each.
+"""Tries wrong definitions, one at a time, and says what refuses each.
 
     tests/wrong_definitions.py [--seed N] [--count K] [--skip M] [--jobs J] [--log FILE] [--list FILE] [FILE ...]
     tests/wrong_definitions.py --draw --seed N --count K
 
-The first form tries a list of wrong definitions (tests/wrong_definitions.txt, or another), and then K edits (150; with 0
-only the list). The seed (1) draws these from all places of crates/rules/specs (or of the files named) where an operator,
-a number, a name or a condition can be changed, a conjunct or a step dropped, two steps or two arguments exchanged. The
-seed also draws the order of the definitions; each round takes one edit of each. With --skip the run leaves out the list
-and the first M draws, for a run in parts. It always leaves out Trials itself, Opened (a list of names), Lengths (bounds
-of what is written, only for the proofs), Fields (the widths of fields), and what only states a type. It leaves out edits
-that show nothing: the order of a table's rows (`if eqb k 1 .. else if eqb k 2 ..`), the arguments of `eqb` exchanged,
-`leb x 0` for `eqb x 0`.
+The first tries a list of wrong definitions (tests/wrong_definitions.txt, or another), and then K edits (150; 0: the list
+alone) drawn by the seed (1) from all places of crates/rules/specs (or of the files named) where an operator, a number, a
+name or a condition can be changed, a conjunct or a step dropped, two steps or two arguments exchanged. Definitions are
+gone through in an order drawn by the seed, one edit of each in a round. With --skip the list and the first M draws are
+left out, for a run in parts. Left out: Trials itself, Opened (a list of names), Lengths (bounds of what is written, for
+the proofs alone), Fields (the widths of fields), and what only states a type. So are edits that tell nothing: the order
+of a table's rows (`if eqb k 1 .. else if eqb k 2 ..`), the arguments of `eqb` exchanged, `leb x 0` for `eqb x 0`.
 
-The second form tries nothing. It prints K entries for the list, drawn in the same way from the definitions of sets,
-layer, replay, feed and short_sessions and from those of the requests (b), (d), (e), (g) and (m) in rules and demands; in
-replay and LimitedSweeps also from the claims. A try names an entry that does not type; leave it out of the list by hand.
+The second tries nothing: it prints K entries for the list, drawn in the same way from the definitions of sets, layer,
+replay, feed and short_sessions and from those of the requests (b), (d), (e), (g) and (m) in rules and demands; in replay
+and LimitedSweeps from what is claimed, too. An entry that does not type is told so when it is tried, and is left out of
+the list by hand.
 
-The run tries each edit twice at most:
+Each edit is tried twice at most:
 
 1. against the trials alone, in a copy of the crate `rules` that has its types, its definitions and its trials, with
-   those of the crate `trials`, but no law and no function. There `trials-hold` must fail, over one part of the trials
-   (the cheap lists first, then list by list), or a statement of the trials of rules, of a request or of the filing: then
-   the whole fails. These are computed, so the edit is refused by its meaning. An edit that passes all parts is checked
-   against the whole from nothing.
-2. against the proofs, in a copy of all crates, if it passes the trials or is an edit of another crate (`file: sets Set`
-   in the list). If a statement by computation of that crate fails (its Trials or its Witness), the edit is refused by
-   its meaning there too. Otherwise the run cannot distinguish a false statement from a proof text that does not fit the
-   new form: the list says by hand which statement is false and why, and the run checks the crate that has it. Without
-   such a line the run prints that only a proof text refuses the edit. An edit of the list that means the same has a line
-   that says why, and is not checked against the proofs.
+   those of the crate `trials`: no law and no function. There `trials-hold` must fail, over one part of the trials (the
+   cheap lists first, then list by list), or a statement of rules' own trials, of a request's or of the filing's: that
+   is a failure of the whole. These are computed, so the edit is refused by its meaning. An edit that passes all parts
+   is checked against the whole from nothing.
+2. against the proofs, in a copy of all crates, where the trials let it pass or where it is an edit of another crate
+   (`file: sets Set` in the list). Where a statement by computation of that crate fails (its Trials or its Witness),
+   the edit is refused by its meaning there, too. Else nothing tells a statement that has become false from a proof
+   text that does not fit the new form: the list says by hand which statement is false and why, and the crate that has
+   it is checked. Without such a line the edit is told as one that a proof text alone refuses. An edit of the list that
+   means the same has a line that says why, and is not checked against the proofs.
 
-A run begins with the definitions as they are. They must pass every part and the whole, and every crate that the run
-checks; otherwise the run ends there with status 2. It prints a line for each edit, and on a terminal a line below them
-that shows how far it is. The last line has the counts. An edit that does not compile does not count, and another is
-drawn. Edits that mean the same are in the list with the reason, and are no failure. The status is 1 if an edit that is
-not known to mean the same survives or is refused by a proof text alone, if a line of the list fits no definition or does
-not compile, or if a check ended without a verdict. It is 2 for a wrong command line.
+A run begins with the definitions as they are, which must pass every part and the whole, and every crate that is asked;
+where they do not, it ends there with status 2. A line is printed for each edit; on a terminal a line below them tells
+how far the run is. The last line has the counts. An edit that does not compile is not counted, and another is drawn.
+Edits that mean the same stand in the list with the reason, and are no failure. The status is 1 where an edit survives,
+or is refused by a proof text alone, that is not known to mean the same; where a line of the list fits no definition or
+does not compile; or where a check ended without a verdict. It is 2 for a wrong command line.
 """
 import argparse
 import itertools
@@ -347,7 +347,7 @@ KINDS = {
 
 
 def edits_of(text, start, end):
-    """All wrong forms of the text from start to end: the kind of edit and the whole new text, each once."""
+    """All wrong forms of what stands at start to end: what kind of edit, and the whole text anew, each once."""
     seen = {text}
     for nodes in levels(parsed(text, start, end)):
         for kind, words in KINDS.items():
@@ -476,8 +476,8 @@ class Copy:
         self.write("Lib.antt", self.lib + "pub mod Filing\n")
 
     def only(self, part):
-        """One statement over some of the lists in the place of the statement over all, which is tried list by list. The filing's file is left
-        out: no line of Lib names it then."""
+        """One statement over some of the lists in the place of that over all, which is asked list by list; and not the filing's file, which no
+        line of Lib names then."""
         lists = "pub trials : List Trial\ntrials = " + " ++ ".join(part) + "\n\n"
         holds = "pub trials-hold : map outcome trials ≡ map expected trials\nunfolding opened-rules tried staged trials\ntrials-hold = refl\n\n"
         self.write(MORE, re.sub(r"(?s)-- every trial of a list comes out.*?(?=pub reserves-hold)", lambda _: lists + holds, self.trials))
@@ -513,7 +513,7 @@ class Copy:
 
 
 class Proofs:
-    """A copy of all crates, with what is proved of them already, in which an edit that no trial of the rules refuses is checked against the proofs."""
+    """A copy of all crates, with what is proved of them already, in which an edit that no trial of the rules refuses is held against the proofs."""
 
     def __init__(self, root, place):
         self.root, self.tree, self.lock = root, place, threading.Lock()

@@ -1,5 +1,5 @@
 /*
- * The displayed books after each message, in C: reads a file of messages, does each on
+ * The displayed books after each message, in C: reads a file of messages, takes each upon
  * a venue held here, and prints what each book then shows.
  *
  *     books [MESSAGES]

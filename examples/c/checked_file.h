@@ -9,8 +9,8 @@
  *     # 316 bytes
  *     2c26b46b68ffc68ff99b453c1d30413413422d706483bfa0f98a5e886266e7ae  noon.set
  *
- * which `sha256sum -c` checks too: it ignores the first line. `venue set --output` writes
- * and `venue resume` checks the same.
+ * which `sha256sum -c` checks too: it passes the first line over. `venue set --output` and
+ * `venue resume` write and ask for the same.
  */
 #ifndef CHECKED_FILE_H
 #define CHECKED_FILE_H
@@ -41,7 +41,7 @@ static inline const char *last_part(const char *file)
 
 /* Writing ---------------------------------------------------------------------- */
 
-/* Removes a file that was not written whole, and prints why. */
+/* Removes a file that was not written whole, and tells why. */
 static inline void give_up(const char *file)
 {
     int why = errno;
@@ -121,7 +121,7 @@ static inline void write_checked(const char *file, struct bytes data)
 
 /* Reading ---------------------------------------------------------------------- */
 
-/* How a file differs from what these lines say; NULL where it does not. */
+/* What of a file is not as these lines tell; NULL where all is. */
 static inline const char *difference(struct bytes lines, struct bytes data)
 {
     char found[SHA256_DIGITS + 1];
@@ -130,7 +130,7 @@ static inline const char *difference(struct bytes lines, struct bytes data)
     uint8_t *text = resized(NULL, lines.length + 1);
     memcpy(text, lines.at, lines.length);
     text[lines.length] = '\0';
-    /* Without the first line it is what `sha256sum` writes: then only the checksum is compared. */
+    /* Without the first line it is what `sha256sum` writes: then the checksum alone is asked. */
     bool told = sscanf((const char *)text, "# %zu bytes %64[0-9a-f]", &length, digits) == 2;
     bool told_sum = told || sscanf((const char *)text, "%64[0-9a-f]", digits) == 1;
     free(text);
@@ -142,7 +142,7 @@ static inline const char *difference(struct bytes lines, struct bytes data)
     return strcmp(found, digits) == 0 ? NULL : "its checksum is another one";
 }
 
-/* Whether a file is there and has the length and the checksum of these bytes. */
+/* Whether a file is there and tells these bytes. */
 static inline bool is_told_by(const char *sums, struct bytes data)
 {
     if (access(sums, R_OK) != 0)
@@ -157,7 +157,7 @@ static inline bool is_told_by(const char *sums, struct bytes data)
 static inline void refuse_file(const char *file, const char *sums, const char *what, struct bytes data)
 {
     char *left = name_with(sums, ".new");
-    fprintf(stderr, PROGRAM ": %s is not what %s says: %s\n", file, sums, what);
+    fprintf(stderr, PROGRAM ": %s is not what %s tells: %s\n", file, sums, what);
     if (is_told_by(left, data))
         fprintf(stderr, PROGRAM ": %s tells it: the writing was cut off before its last step, to rename that file to %s\n",
                 left, sums);

@@ -1,6 +1,6 @@
 /*
  * What the hosts in C share: reading files, printing records. PROGRAM is the name
- * under which they print what went wrong. All of it is C11 and C++11.
+ * under which they tell what went wrong. All of it is C11 and C++11.
  */
 #ifndef COMMON_H
 #define COMMON_H
@@ -30,7 +30,7 @@ static inline void wrong_usage(const char *what, const char *word)
     exit(2);
 }
 
-/* Prints what was not done with a file, by errno, and ends the program. */
+/* Tells what was not done with a file, by errno, and ends the program. */
 static inline void file_failed(const char *file, const char *what)
 {
     fflush(stdout);

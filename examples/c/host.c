@@ -216,8 +216,8 @@ static void print_traffic(const uint8_t *venue)
         printf("limited sweeps went up to id %" PRIu32 "\n", reached);
 }
 
-/* The same list by one-message calls: the venue is held here, and each call gets the
- * number of messages before it. */
+/* The same list by one-message calls: the venue is held here, and each message is
+ * told how many went before it. */
 static uint8_t run_each(struct options options, struct bytes messages)
 {
     uint8_t venue[LEGGING_VENUE_BYTES];

@@ -43,7 +43,7 @@ static uint8_t venue[LEGGING_VENUE_BYTES];
 static uint8_t report[LEGGING_MOST_BYTES];
 static uint8_t set[LEGGING_SET_BYTES];
 
-/* Prints a number that is not 0 and ends the program. */
+/* Tells a number that is not 0 and ends the program. */
 static void refuse(const char *what, uint8_t number)
 {
     fflush(stdout);
@@ -51,7 +51,7 @@ static void refuse(const char *what, uint8_t number)
     exit(REFUSED);
 }
 
-/* The venue of a set, and how many messages were done on it. */
+/* The venue of a set, and how many messages were done upon it. */
 static uint32_t resume(const char *file, bool unchecked)
 {
     struct bytes held = read_checked(file, unchecked);

@@ -60,7 +60,7 @@ struct carried {
 #define MOST_CARRIED \
     (1u + LEGGING_VENUES * (2u + LEGGING_SET_BYTES + 1u + LEGGING_MOST_WAITING * LEGGING_PLACE_BYTES))
 
-/* Prints why what was carried is refused, and ends the program. */
+/* Tells why what was carried is refused, and ends the program. */
 static void refuse(uint32_t venue, const char *what, unsigned number)
 {
     fflush(stdout);

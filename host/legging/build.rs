@@ -1,5 +1,5 @@
 //! Finds the archives that `rt staticlib c_api` and `rt staticlib dispatch` write, links
-//! them, and gives the tests their paths.
+//! them, and tells the tests their paths.
 
 use std::env;
 use std::path::{Path, PathBuf};
@@ -54,7 +54,7 @@ fn link(archive: &Path) {
     println!("cargo:rustc-link-lib=static={name}");
 }
 
-/// The folder of an archive and the name by which a linker finds it.
+/// The folder of an archive and the name by which a linker asks for it.
 fn folder_and_name(archive: &Path) -> Option<(String, String)> {
     let whole = archive.canonicalize().ok()?;
     let folder = whole.parent()?.to_str()?.to_string();

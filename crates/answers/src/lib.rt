@@ -1,4 +1,4 @@
-// The answer to a message, record 64. For a refused message it is the only record. For an accepted one the engine writes it first, and mask and count last.
+// A message's answer: a refusal alone, or the record that is written first and set when all that the message does is done.
 ghost use Rattle.rules.specs.Effects.{nothing};
 ghost use Rattle.rules.specs.Step.{answered};
 ghost use Rattle.places.specs.Layout.{venue_of};
@@ -12,7 +12,7 @@ pub struct Stepped {
     pub written: usize,
 }
 
-// A refused message: the engine writes its answer and nothing else.
+// A refused message: its answer, and nothing else.
 pub fn refuse(numbers: &[u32], number: u32, refused: u8, out: &mut [u8]) -> Stepped
     requires { DenseNumbers numbers.now }
     ensures { Steps (answered number refused (nothing (venue_of numbers.now))) out.old result numbers.now out.new }
@@ -23,7 +23,7 @@ pub fn refuse(numbers: &[u32], number: u32, refused: u8, out: &mut [u8]) -> Step
     Stepped { refused, written }
 }
 
-// The end of an accepted message: closes the gaps that its effects left, and writes mask and count into its answer.
+// When an accepted message's effects are done: the gaps that they left are closed, and its answer, written first, is set.
 pub fn finish(numbers: &mut [u32], number: u32, out: &mut [u8], end: usize) -> Stepped
     requires { RightNumbers numbers.old }
     ensures { Finishes number numbers.old out.old end result numbers.new out.new }

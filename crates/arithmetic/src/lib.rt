@@ -1,4 +1,4 @@
-// Functions on numbers and on the types of rules. They use no other crate.
+// The leaf functions on numbers, over the types and definitions of rules.
 ghost use Rattle.std.specs.Prelude.{◌≡◌, ℕ, min, ◌+◌, ◌≤◌, ◌-◌, eqb, ℤ, pos, nat_abs, ◌+ℤ◌};
 ghost use Rattle.rules.specs.Base.{if◌then◌else◌};
 ghost use Rattle.rules.specs.Words.{opposite, sign_times, place_of, fresh_venue, sell, is_price, is_quantity, is_ratio, one_to_one};
@@ -37,7 +37,7 @@ pub fn fresh() -> Venue
     }
 }
 
-// The opposite side: the one that a leg or an order of this side takes.
+// The side that a leg or an order of this side takes.
 pub fn opposite_of(side: u8) -> u8
     ensures { result ≡ opposite side }
 {
@@ -47,7 +47,7 @@ pub fn opposite_of(side: u8) -> u8
     0
 }
 
-// A figure of edition 0: 0 to 7 is the increment of that series, 8 the percentage.
+// A figure of edition 0: the increment of series 0 to 7, and the percent.
 pub fn base_figure(figure: u8) -> u8
     ensures { result ≡ base_figure figure }
 {
@@ -60,7 +60,7 @@ pub fn base_figure(figure: u8) -> u8
     5
 }
 
-// A legging order's displayed price: its own price, rounded down (buy) or up (sell) to the increment of its series.
+// A legging order's displayed price: its own, down (buy) or up (sell) to the increment of its series.
 pub fn displayed_price(increment: u8, side: u8, price: u32) -> u64
     ensures { result ≡ displayed_price increment side price }
 {
@@ -75,7 +75,7 @@ pub fn displayed_price(increment: u8, side: u8, price: u32) -> u64
     (p + (i - 1)) / i * i
 }
 
-// The legging place of a series and side.
+// The place of a legging order.
 pub fn place_of(series: u8, side: u8) -> usize
     ensures { result ≡ place_of series side }
 {
@@ -92,7 +92,7 @@ pub fn lesser(a: u32, b: u32) -> u32
     b
 }
 
-// What an order shows: what is left of it without its reserve.
+// What an order shows: what is left of it but for its reserve.
 pub fn shown_size(o: Regular) -> u32
     ensures { result ≡ shown_size o }
 {
@@ -120,7 +120,7 @@ pub fn sign_times_price(side: u8, price: u32) -> i64
     0 - (price as i64)
 }
 
-// What a leg adds to the net: sign × price × ratio.
+// What a leg adds to the net: sign × price, by its ratio.
 pub fn weighed_price(ratio: u8, side: u8, price: u32) -> i64
     ensures { (result ≡ weighed ratio side price) × (nat_abs result ≤ 1095216660225) }
 {
@@ -152,7 +152,7 @@ pub fn near_net(percent: u8, o: i64, t: i64) -> bool
     100 * t <= 100 * o + x * o
 }
 
-// A number for each case of Message, in their order. It is not the kind in the bytes: an order of kind 9 is 1 here, and a limited sweep, kind 11, is 9.
+// A message's form, by the first kind that has it: an order of kind 9 is of the form of kind 1, one of kind 10 of that of kind 2.
 pub fn message_form(m: Message) -> u16
     ensures { result ≡ message_form m }
 {
@@ -169,7 +169,7 @@ pub fn message_form(m: Message) -> u16
     }
 }
 
-// A message's length by its kind; 0 for a number that is no kind. It compares in order, since a compiler turns tests for equality into a table of lengths.
+// A message's length by its kind, 0 for what is no kind of message. It compares in order: of tests for equality a compiler makes a table of lengths.
 pub fn length_of(kind: u16) -> u16
     ensures { result ≡ length_of kind }
 {
@@ -212,7 +212,7 @@ pub fn length_of(kind: u16) -> u16
     0
 }
 
-// A cause's place among the causes, counted from 1. It is the cause's number, except that the last cause, at place 9, has number 10.
+// A cause's place among the causes, from 1 on: its number, but that the last one's is 10.
 fn cause_order(cause: Cause) -> u8
     ensures { (if eqb result 9 then 10 else result) ≡ cause_number cause }
 {
@@ -229,7 +229,7 @@ fn cause_order(cause: Cause) -> u8
     }
 }
 
-// A cause's number, in two steps, since a compiler turns numbers that do not rise by one into a table.
+// A cause's number, in two steps: of numbers that do not rise by one a compiler makes a table.
 pub fn cause_number(cause: Cause) -> u8
     ensures { result ≡ cause_number cause }
 {
@@ -240,7 +240,7 @@ pub fn cause_number(cause: Cause) -> u8
     n
 }
 
-// A verdict's number: 0 where the order stands, else the cause's number.
+// A verdict's number: 0, or its cause's.
 pub fn verdict_number(verdict: Verdict) -> u8
     ensures { result ≡ verdict_number verdict }
 {
@@ -260,7 +260,7 @@ pub fn decoded_number(decoded: Decoded) -> u8
     }
 }
 
-// a is strictly better than b to sell: a is lower. Any price is better than none (0).
+// a is strictly better than b to sell: lower, and any price is better than none.
 fn is_lower(a: u64, b: u64) -> bool
     ensures { result ≡ better sell a b }
 {
@@ -273,7 +273,7 @@ fn is_lower(a: u64, b: u64) -> bool
     a < b
 }
 
-// a is strictly better than b at this side. Any price is better than none (0). The function makes both comparisons, so that the side only selects one.
+// a is strictly better than b at this side; any price is better than none. Both comparisons are made, so that the side only selects.
 pub fn is_better_wide(side: u8, a: u64, b: u64) -> bool
     ensures { result ≡ better side a b }
 {
@@ -285,7 +285,7 @@ pub fn is_better_wide(side: u8, a: u64, b: u64) -> bool
     lower
 }
 
-// The same for prices of 32 bits.
+// The same of two prices.
 pub fn is_better(side: u8, a: u32, b: u32) -> bool
     ensures { result ≡ better side a b }
 {
@@ -355,7 +355,7 @@ pub fn is_increment(n: u8) -> bool
     n == 10
 }
 
-// Both ratios of a complex order are 1: it is of kind 2. Every other complex order is of kind 10.
+// A complex order is of kind 2; every other one is of kind 10.
 pub fn is_one_to_one(c: Complex) -> bool
     ensures { result ≡ one_to_one c }
 {
@@ -365,7 +365,7 @@ pub fn is_one_to_one(c: Complex) -> bool
     c.ratio2 == 1
 }
 
-// q - k; 0 where k is greater than q.
+// q less k, and no less than 0.
 pub fn less(q: u32, k: u32) -> u32
     ensures { result ≡ q - k }
 {

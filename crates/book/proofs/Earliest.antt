@@ -31,7 +31,7 @@ use Rattle.book.specs.Picks.{pick_of, regular_found}
 use Rattle.book.proofs.FirstPlace.{where-first, found_in, found_at, found_none, regular-free}
 use Rattle.book.proofs.PicksLaws.{for-free}
 
--- The pick by its place -----------------------------------------------------------------------
+-- The pick, told by its place -----------------------------------------------------------------
 
 module _ {A : Type 0} (d : A) (candidate : A → Bool) (before : A → A → Bool) where
   -- the candidate at place i ranks before those at the places before it, and none after it ranks before it
@@ -207,7 +207,7 @@ module _ (b : List ℕ) where
   unfolding venue_of
   regular-there i h = used-at (regular_in b) no_regular (regulars_used b) 128 i h
 
-  -- a test that free places do not pass is decided by the places in use
+  -- a test that free places do not pass is told by the places in use
   used-none : (f : Regular → Bool) → f no_regular ≡ false → ((j : ℕ) → j < regulars_used b → f (regular_in b j) ≡ false) → (j : ℕ) → f (get_or (venue_of b).regular j no_regular) ≡ false
   unfolding venue_of
   used-none f off none j =

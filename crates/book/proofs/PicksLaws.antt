@@ -1,4 +1,4 @@
--- What is picked of the regular book stands at a place in use; the tests for the orders at a price and for those that are met; and their rank.
+-- What is picked of the regular book stands at a place in use; the tests by which the orders at a price and those that are met are told; and their rank.
 use mathlib.Core.Path.{◌≡◌, refl, sym, ap, ap₂, ◌∙◌}
 use mathlib.Core.Bool.{Bool, true, false, ◌&&◌, true≢false}
 use mathlib.Core.List.{List}

@@ -1,5 +1,5 @@
-// Scans of the places in use: which order is met or taken first, and where an order rests; and how many legging places are filled.
-// Ids of regular orders rise with their places: the order at the first place is the earliest, and a binary search finds an id.
+// Scans of the places in use: who is met or taken first, and where an order rests; and how many legging places are filled.
+// Ids rise with the places, so that the first of the places is the earliest, and an id is found by halves.
 ghost use Rattle.std.specs.Prelude.{◌≡◌, length};
 ghost use Rattle.std.specs.Int.Count.{ones};
 ghost use Rattle.rules.specs.declared.Regular.{Regular};
@@ -13,14 +13,14 @@ ghost use Rattle.places.specs.Requirements.{RightNumbers, DenseNumbers, RightSer
 
 use rules::Regular;
 
-// The regular order that a scan picked, with its place; or none.
+// A regular order picked, with its place.
 #[derive(Drop)]
 pub enum Pick {
     Nobody,
     At(usize, Regular),
 }
 
-// The place of an order, or none.
+// The place of an order.
 #[derive(Drop)]
 pub enum Found {
     At(usize),
@@ -43,7 +43,7 @@ fn shows_for(o: Regular, series: u8, side: u8, price: u32) -> bool
     o.price == price
 }
 
-// The earliest regular order that shows size at a price of a side. The scan reads an order whole only if its key is that of the series and side.
+// The earliest regular order that shows size at a price of a side. Only orders with the key of series and side are read whole.
 pub fn first_for(numbers: &[u32], series: u8, side: u8, price: u32) -> Pick
     requires { RightNumbers numbers.now }
     ensures { result ≡ pick_of (first (shows_for series side price) earlier (venue_of numbers.now).regular) }
@@ -65,8 +65,8 @@ pub fn first_for(numbers: &[u32], series: u8, side: u8, price: u32) -> Pick
     Pick::Nobody
 }
 
-// The regular order that an order of this side and price in a series meets first, where every order shows some size: the earliest at the best price of the
-// other side, if the order reaches that price.
+// The regular order that one of this side and price in a series meets first, where every order shows some size: the earliest at the best price of the
+// other side, where this is reached.
 fn first_shown(numbers: &[u32], series: u8, side: u8, price: u32) -> Pick
     requires { RightShown numbers.now series }
     ensures { result ≡ pick_of (first (is_met series side price) price_then_id (venue_of numbers.now).regular) }
@@ -79,7 +79,7 @@ fn first_shown(numbers: &[u32], series: u8, side: u8, price: u32) -> Pick
     first_for(numbers, series, other, best)
 }
 
-// An order of this side and price in a series meets m: m's shown size or its reserve.
+// An order of this side and price in a series meets m, its shown size or its reserve.
 fn is_met(m: Regular, series: u8, side: u8, price: u32) -> bool
     ensures { result ≡ is_met series side price m }
 {
@@ -95,7 +95,7 @@ fn is_met(m: Regular, series: u8, side: u8, price: u32) -> bool
     arithmetic::reaches_price(side, price, m.price)
 }
 
-// At one price a goes before m: an order that shows before one that does not, then the earlier order.
+// At one price a goes before m: who shows before who does not, and then the earlier.
 fn shows_first(a: Regular, m: Regular) -> bool
     ensures { result ≡ shown_then_id a m }
 {
@@ -111,7 +111,7 @@ fn shows_first(a: Regular, m: Regular) -> bool
     a.id < m.id
 }
 
-// a goes before m: the better price first, then as `shows_first` says.
+// a goes before m: the better price first.
 fn ranks_before(a: Regular, m: Regular) -> bool
     ensures { result ≡ price_then_id a m }
 {
@@ -124,7 +124,7 @@ fn ranks_before(a: Regular, m: Regular) -> bool
     shows_first(a, m)
 }
 
-// The first in rank of the order m at place n and of `best`, the first of the orders after it.
+// The order m at place n, beside the first in rank of those after it.
 fn better_pick(best: Pick, n: usize, m: Regular) -> Pick
     ensures { (x : Choice Regular) → best ≡ pick_of x → result ≡ pick_of (ranked price_then_id n m x) }
 {
@@ -139,7 +139,7 @@ fn better_pick(best: Pick, n: usize, m: Regular) -> Pick
     }
 }
 
-// The same where some order may show nothing of what is left of it: the first in rank of all orders that are met.
+// The same where some order may show nothing of what is left of it: the first in rank of all that are met.
 fn first_ranked(numbers: &[u32], series: u8, side: u8, price: u32) -> Pick
     requires { length numbers.now ≡ size }
     ensures { result ≡ pick_of (first (is_met series side price) price_then_id (venue_of numbers.now).regular) }
@@ -161,7 +161,7 @@ fn first_ranked(numbers: &[u32], series: u8, side: u8, price: u32) -> Pick
     best
 }
 
-// The regular order that an order of this side and price in a series meets first.
+// The regular order that one of this side and price in a series meets first.
 pub fn first_met(numbers: &[u32], series: u8, side: u8, price: u32) -> Pick
     requires { RightSeries numbers.now series }
     ensures { result ≡ pick_of (first (is_met series side price) price_then_id (venue_of numbers.now).regular) }
@@ -172,7 +172,7 @@ pub fn first_met(numbers: &[u32], series: u8, side: u8, price: u32) -> Pick
     first_ranked(numbers, series, side, price)
 }
 
-// The place of the resting regular order with an id, by binary search: if the order rests, its place is from `low` to below `high`.
+// The place of the resting regular order with an id: among the places from `low` to below `high`, where every place is held.
 pub fn regular_place(numbers: &[u32], id: u32) -> Found
     requires { DenseNumbers numbers.now }
     ensures { result ≡ regular_found (venue_of numbers.now) id }
@@ -211,7 +211,7 @@ pub fn complex_place(numbers: &[u32], id: u32) -> Found
     Found::Nothing
 }
 
-// The number of ones in a mask: how many legging places are filled.
+// The ones of a mask: how many places are filled.
 pub fn count_of(mask: u16) -> u8
     ensures { result ≡ ones mask }
 {

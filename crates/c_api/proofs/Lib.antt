@@ -1,3 +1,2 @@
 pub mod SettingsTold
 pub mod SetCarried
-pub mod Batches

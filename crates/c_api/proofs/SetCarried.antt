@@ -20,15 +20,15 @@ use Rattle.records.proofs.SeenLaws.{plus-in}
 use Rattle.venue_bytes.specs.Held.{venue_size, venue_bytes, venue_from, Declared}
 use Rattle.venue_writer.proofs.Whole.{venue-length}
 use Rattle.venue_writer.proofs.Back.{held_whole}
-use Rattle.sets.specs.Set.{WrittenSet, joined, set_of, carries, not_written, write_set, read_set}
+use Rattle.sets.specs.Set.{WrittenSet, ReadSet, joined, set_of, carries, not_written, write_set, not_read, read_set}
 use Rattle.sets.specs.Promises.{most_set_bytes}
 use Rattle.sets.proofs.Most.{at_most}
 use Rattle.sets.proofs.ReadBack.{written-set, reads-back}
 use Rattle.set_writer.specs.declared.Saved.{Saved}
 use Rattle.set_writer.specs.Saving.{saved_of}
 use Rattle.set_reader.specs.declared.Resumed.{Resumed}
-use Rattle.set_reader.specs.Returned.{ReadBytes, set_read, as_bytes}
-use Rattle.engine.specs.Hosts.{Hosted, leaves, one_hosted, saves_as, save_hosted, resumes_as, resume_hosted, Again, HeldAgain}
+use Rattle.set_reader.specs.Returned.{set_read}
+use Rattle.engine.specs.Hosts.{Hosted, leaves, one_hosted, saves_as, save_hosted, read_for, resumes_as, resume_hosted, Again, HeldAgain}
 use Rattle.engine.proofs.HostsLaws.{declared, held-shaped, held_next}
 use Rattle.c_api.proofs.SettingsTold.{zeros, long}
 
@@ -50,9 +50,9 @@ written-few n room v w =
     if-by (λ (x : WrittenSet). x.written ≤ most_set_bytes) (not (carries n v)) (λ _. omega arith)
     (λ _. if-by (λ (x : WrittenSet). x.written ≤ most_set_bytes) (ltb room (length (joined (set_of n v)))) (λ _. omega arith) (λ _. at_most n v w))
 
-pub saved-few : (memory : List ℕ) (n room : ℕ) (r : Saved) (m : List ℕ) → saved_of r m ≡ write_set n (venue_from memory) room → r.written ≤ most_set_bytes
-saved-few memory n room r m s =
-    let k : r.written ≡ (write_set n (venue_from memory) room).written = ap (λ (x : WrittenSet). x.written) s in
+pub saved-few : (memory : List ℕ) (n room : ℕ) (v : Venue) → v ≡ venue_from memory → (r : Saved) (m : List ℕ) → saved_of r m ≡ write_set n v room → r.written ≤ most_set_bytes
+saved-few memory n room v e r m s =
+    let k : r.written ≡ (write_set n (venue_from memory) room).written = ap (λ (x : WrittenSet). x.written) (s ∙ ap (λ (w : Venue). write_set n w room) e) in
     let few = written-few n room (venue_from memory) (held-shaped memory) in
     omega arith
 
@@ -72,44 +72,57 @@ module _ (memory : List ℕ) (n : ℕ) (l z t y : List ℕ) (zeroed : z ≡ take
         ∙ rw (eq-eqb (length memory) venue_size size, ne_eqb (length t) 4 (λ e. h (long t y cleared ∙ e)))
 
     -- the set is written or refused, and its count put
-    pub saves-all : length y ≡ 4 → (r : Saved) (m : List ℕ) → saved_of r m ≡ write_set n (venue_from memory) (length z) →
+    pub saves-all : length y ≡ 4 → (v : Venue) → v ≡ venue_from memory → (r : Saved) (m : List ℕ) → saved_of r m ≡ write_set n v (length z) →
         (o : List ℕ) → o ≡ u32 r.written → saves_as r.number m o ≡ save_hosted memory n (length l) (length t)
     unfolding save_hosted
-    saves-all four r m s o p =
+    saves-all four v e r m s o p =
         let f : length t ≡ 4 = (let k = long t y cleared in omega arith) in
-        let w : saved_of r m ≡ write_set n (venue_from memory) (length l) = s ∙ ap (write_set n (venue_from memory)) (long l z zeroed) in
+        let w : saved_of r m ≡ write_set n (venue_from memory) (length l) = s ∙ ap₂ (write_set n) e (long l z zeroed) in
         ap (saves_as r.number m) p ∙ ap (λ (x : WrittenSet). saves_as x.number x.memory (u32 x.written)) w
         ∙ rw (eq-eqb (length memory) venue_size size, eq-eqb (length t) 4 f)
 
 -- A set read ----------------------------------------------------------------------------------
 
--- the message number's memory was zeroed from its start
+-- the message number's memory has four bytes, or another length
+pub read-four : (room : ℕ) (set : List ℕ) (r : Resumed) → room ≡ 4 → set_read r ≡ read_set set → set_read r ≡ read_for room set
+unfolding read_for
+read-four room set r e s = s ∙ rw (eq-eqb room 4 e)
+
+pub read_short : (room : ℕ) (set : List ℕ) (r : Resumed) → (room ≡ 4 → ⊥) → set_read r ≡ not_read 9 → set_read r ≡ read_for room set
+unfolding read_for
+read_short room set r h s = s ∙ rw (ne_eqb room 4 h)
+
+-- it was zeroed from its start
 module _ (set venue message z : List ℕ) (zeroed : z ≡ take 0 message ++ replicate (length message - 0) 0) where
   -- the venue's memory is of another length
   pub reads_none : (length venue ≡ venue_size → ⊥) → resumes_as 9 venue z ≡ resume_hosted set venue message
   unfolding resume_hosted
   reads_none h = ap (resumes_as 9 venue) (zeros message z zeroed) ∙ rw (ne_eqb (length venue) venue_size h)
 
-  module _ (size : length venue ≡ venue_size) where
-    -- the message number's is
-    pub reads_short : (length z ≡ 4 → ⊥) → resumes_as 9 venue z ≡ resume_hosted set venue message
+  -- the set is read or refused, and the venue's memory written anew
+  module _ (size : length venue ≡ venue_size) (r : Resumed) (e : set_read r ≡ read_for (length z) set) (m : List ℕ) (p : m ≡ venue_bytes r.venue) where
+    told : set_read r ≡ read_for (length message) set
+    told = e ∙ ap (λ (k : ℕ). read_for k set) (long message z zeroed)
+
+    pub reads_short : (length z ≡ 4 → ⊥) → resumes_as r.number m z ≡ resume_hosted set venue message
     unfolding resume_hosted
     reads_short h =
-        ap (resumes_as 9 venue) (zeros message z zeroed) ∙ rw (eq-eqb (length venue) venue_size size, ne_eqb (length message) 4 (λ f. h (long message z zeroed ∙ f)))
+        ap₂ (resumes_as r.number) p (zeros message z zeroed)
+        ∙ ap (λ (x : ReadSet). resumes_as x.number (venue_bytes x.venue) (replicate (length message) 0)) told
+        ∙ rw (eq-eqb (length venue) venue_size size, ne_eqb (length message) 4 (λ f. h (long message z zeroed ∙ f)))
 
-    -- the set is read or refused, and both are written
-    pub reads_all : length z ≡ 4 → (r : Resumed) (m : List ℕ) → set_read r m ≡ as_bytes (read_set set) → (o : List ℕ) → o ≡ u32 r.message →
-        resumes_as r.number m o ≡ resume_hosted set venue message
-    unfolding resume_hosted as_bytes
-    reads_all four r m e o q =
+    -- and the message number put
+    pub reads_all : length z ≡ 4 → (o : List ℕ) → o ≡ u32 r.message → resumes_as r.number m o ≡ resume_hosted set venue message
+    unfolding resume_hosted
+    reads_all four o q =
         let f : length message ≡ 4 = (let k = long message z zeroed in omega arith) in
-        ap (resumes_as r.number m) q
-        ∙ ap (λ (x : ReadBytes). resumes_as x.number x.venue (u32 x.message)) e
+        ap₂ (resumes_as r.number) p q
+        ∙ ap (λ (x : ReadSet). resumes_as x.number (venue_bytes x.venue) (u32 x.message)) told
         ∙ rw (eq-eqb (length venue) venue_size size, eq-eqb (length message) 4 f)
 
 -- Written and read ----------------------------------------------------------------------------
 
--- one message on two memories that hold one venue
+-- one message upon two memories that hold one venue
 module _ (n room : ℕ) (bs : List ℕ) where
   held-call : (m : List ℕ) → length m ≡ venue_size → one_hosted m n room bs ≡ leaves m (one (venue_from m) n room bs)
   unfolding one_hosted
@@ -158,7 +171,7 @@ module _ (memory : List ℕ) (number room : ℕ) (size : length memory ≡ venue
 
     resumed : (venue message : List ℕ) → length venue ≡ venue_size → length message ≡ 4 →
         resume_hosted (write_set number v room).memory venue message ≡ resumes_as 0 (venue_bytes v) (u32 number)
-    unfolding resume_hosted
+    unfolding resume_hosted read_for
     resumed venue message a b =
         rw (eq-eqb (length venue) venue_size a, eq-eqb (length message) 4 b, reads-back number room v few (held-shaped memory) done)
 

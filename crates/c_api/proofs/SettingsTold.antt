@@ -1,4 +1,4 @@
--- The settings that a host gets: their bytes at the front of a memory of zeros.
+-- The settings told to a host: their bytes at the front of a memory of zeros.
 use mathlib.Core.Path.{◌≡◌, refl, sym, ap, ap₂, ◌∙◌}
 use mathlib.Core.List.{List, [], ◌∷◌, ◌++◌}
 use Prim.Native.Nat.{ℕ, zero, suc, ◌+◌, ◌-◌, ◌≤◌, ◌<◌}
@@ -31,7 +31,7 @@ module _ (l m o a b : List ℕ) (at end : ℕ) (fits : length a + length b ≤ l
   unfolding seen
   put_both = ap (λ (w : Seen). w.memory) twice ∙ pasted-pasted l a b 0 (omega arith)
 
--- What a host gets ----------------------------------------------------------------------------
+-- What a host is told -------------------------------------------------------------------------
 
 zeros-left : (k n : ℕ) → drop {A = ℕ} k (replicate n 0) ≡ replicate (n - k) 0
 zeros-left zero n = ap (λ (i : ℕ). replicate i 0) (sym (sub-zero n))
@@ -69,10 +69,11 @@ module _ (memory : List ℕ) (n : ℕ) (l z : List ℕ) (zeroed : z ≡ take 0 l
     told-short h = ap (told 9) (zeros l z zeroed) ∙ rw (eq-eqb (length memory) venue_size size, lt-leb 9 (length l) (let e = long l z zeroed in omega arith))
 
     -- it holds them
-    pub told-all : 9 ≤ length z → (s : Settings) → s ≡ settings (venue_from memory) n → (o : List ℕ) → o ≡ pasted z 0 (settings_bytes s) →
+    pub told-all : 9 ≤ length z → (v : Venue) → v ≡ venue_from memory → (s : Settings) → s ≡ settings v n → (o : List ℕ) → o ≡ pasted z 0 (settings_bytes s) →
         told s.number o ≡ settings_hosted memory n (length l)
     unfolding settings_hosted pasted
-    told-all h s g o p =
+    told-all h v e s f o p =
+        let g : s ≡ settings (venue_from memory) n = f ∙ ap (λ (w : Venue). settings w n) e in
         let k = bytes-long (venue_from memory) n in
         let j : 0 + length (settings_bytes (settings (venue_from memory) n)) ≡ 9 = omega arith in
         ap₂ told (ap (λ (x : Settings). x.number) g)

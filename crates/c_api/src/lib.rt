@@ -1,25 +1,26 @@
-// The calls for a host in C: the run, the first venue, one message, a run on a venue, the feed, the settings, and a set written and read.
+// The calls for a host in C: the run, the first venue, one message, the feed, the settings, and a set written and read.
 ghost use Rattle.std.specs.Prelude.{◌≡◌, ◌≤◌, length};
 ghost use Rattle.rules.specs.Calls as calls;
 ghost use Rattle.rules.specs.Bytes.{u32};
 ghost use Rattle.records.specs.Seen.{pasted};
 ghost use Rattle.feed.specs.Feed as feeding;
-ghost use Rattle.engine.specs.Hosts.{first_venue, fresh_hosted, hosted, one_hosted, batched, messages_hosted, settings_bytes, told, settings_hosted};
-ghost use Rattle.engine.specs.Hosts.{saves_as, save_hosted, resumes_as, resume_hosted};
+ghost use Rattle.set_reader.specs.Returned.{set_read};
+ghost use Rattle.engine.specs.Hosts.{first_venue, fresh_hosted, hosted, one_hosted, settings_bytes, told, settings_hosted};
+ghost use Rattle.engine.specs.Hosts.{saves_as, save_hosted, read_for, resumes_as, resume_hosted};
 
 use rules::Settings;
+use set_reader::Resumed;
 
-// A run from a fresh venue: writes the report, and returns the number that ended the run.
+// The run, for a host: messages in, the report out, and the number that ended it returned.
 #[unsafe(no_mangle)]
 pub extern "C" fn legging_run(messages: &[u8], report: &mut [u8]) -> u8
     ensures { (result ≡ (calls.run (length report.old) messages.now).returned.number) × (report.new ≡ (calls.run (length report.old) messages.now).report) }
 {
-    let mut numbers = venue_numbers::fresh_numbers();
-    let r = engine::run_on_numbers(&mut numbers, 0, messages, report);
+    let r = engine::run(messages, report);
     r.number
 }
 
-// Writes the bytes of a fresh venue (crate venue_bytes) into a host's memory. A memory of another length can hold no venue: 9.
+// The first venue of a host's memory: the fresh one, as `state` holds it. A memory of another length can hold none.
 #[unsafe(no_mangle)]
 pub extern "C" fn legging_fresh(venue: &mut [u8]) -> u8
     ensures { first_venue result venue.new ≡ fresh_hosted venue.old }
@@ -32,8 +33,8 @@ pub extern "C" fn legging_fresh(venue: &mut [u8]) -> u8
     0
 }
 
-// One message on the venue whose bytes (crate venue_bytes) a host holds: writes the report, and returns the number. Only an accepted message writes the
-// venue's memory. A memory of another length holds no venue: 9.
+// One message upon the venue in a host's memory, as `state` holds it; the number is returned. Only an accepted message writes that memory.
+// One of another length holds no venue.
 #[unsafe(no_mangle)]
 pub extern "C" fn legging_message(
     venue: &mut [u8],
@@ -47,47 +48,26 @@ pub extern "C" fn legging_message(
         records::zero_from(report, 0);
         return 9;
     }
-    let r = engine::message_on_bytes(venue, before, message, report);
+    let given = venue_bytes::venue_from(venue);
+    let r = engine::one_message(given, before, message, report);
+    if r.number != 0 {
+        return r.number;
+    }
+    let after = r.venue;
+    venue_writer::put_venue(venue, after);
     r.number
 }
 
-// A run on the venue whose bytes a host holds, with `before` messages done before it: writes the number of messages done into the four bytes of `done`, and
-// returns the number that ended the run. Only a run that does a message writes the venue's memory. A memory of another length holds no venue or no count: 9.
-#[unsafe(no_mangle)]
-pub extern "C" fn legging_messages(
-    venue: &mut [u8],
-    before: u32,
-    messages: &[u8],
-    report: &mut [u8],
-    done: &mut [u8],
-) -> u8
-    ensures { batched result venue.new report.new done.new ≡ messages_hosted venue.old before (length report.old) (length done.old) messages.now }
-{
-    records::zero_from(done, 0);
-    if venue.len() != venue_bytes::VENUE_SIZE {
-        records::zero_from(report, 0);
-        return 9;
-    }
-    if done.len() != 4 {
-        records::zero_from(report, 0);
-        return 9;
-    }
-    let r = engine::run_on_bytes(venue, before, messages, report);
-    put_number(done, r.done);
-    r.number
-}
-
-// The two lines of a feed, from a fresh venue: writes the report, and returns the number that ended the call.
+// The two lines of a feed, for a host: the report out, and the number that ended it returned.
 #[unsafe(no_mangle)]
 pub extern "C" fn legging_feed<'a>(main: &'a [u8], spare: &'a [u8], report: &mut [u8]) -> u8
     ensures { (result ≡ (feeding.feed (length report.old) main.now spare.now).returned.number) × (report.new ≡ (feeding.feed (length report.old) main.now spare.now).report) }
 {
-    let mut numbers = venue_numbers::fresh_numbers();
-    let r = feed_run::feed_on_numbers(&mut numbers, main, spare, report);
+    let r = feed_run::feed(main, spare, report);
     r.number
 }
 
-// Writes the settings' bytes at the front of a memory.
+// The settings' bytes at the front of a memory.
 fn put_settings(out: &mut [u8], s: Settings)
     requires { 9 ≤ length out.old }
     ensures { out.new ≡ pasted out.old 0 (settings_bytes s) }
@@ -98,8 +78,8 @@ fn put_settings(out: &mut [u8], s: Settings)
     records::put(out, at, &percent);
 }
 
-// The settings, at a message number, of the venue whose bytes a host holds: writes the eight increments, then the percentage, then zeros into `settings`, and
-// returns the number. A memory of another length holds no venue, and one of fewer than nine bytes no settings: 9.
+// The settings of the venue in a host's memory at a message number: the eight increments, then the percent, in the first nine bytes of the memory for
+// them, and zero in each byte after; the number is returned. A memory of another length holds no venue, and one of fewer bytes no settings.
 #[unsafe(no_mangle)]
 pub extern "C" fn legging_settings(venue: &[u8], number: u32, settings: &mut [u8]) -> u8
     ensures { told result settings.new ≡ settings_hosted venue.now number (length settings.old) }
@@ -111,12 +91,13 @@ pub extern "C" fn legging_settings(venue: &[u8], number: u32, settings: &mut [u8
     if settings.len() < 9 {
         return 9;
     }
-    let s = settings::settings(venue, number);
+    let given = venue_bytes::venue_from(venue);
+    let s = settings::settings(given, number);
     put_settings(settings, s);
     s.number
 }
 
-// Writes a number into a memory of four bytes.
+// A number in a memory of its four bytes.
 fn put_number(out: &mut [u8], x: u32)
     requires { length out.old ≡ 4 }
     ensures { out.new ≡ u32 x }
@@ -125,8 +106,8 @@ fn put_number(out: &mut [u8], x: u32)
     records::put(out, 0, &bytes);
 }
 
-// Writes the venue whose bytes a host holds and the number of its last message as a set into `set`, zeros after it, and the length of the set into the four
-// bytes of `written`. Returns the number. A memory of another length holds no venue or no count: 9.
+// The venue in a host's memory and the number of its last message, written as a set from the front of the set's memory on; zero in each byte after, and how
+// many the set has in the four bytes of `written`. The number is returned. A memory of another length holds no venue or no count.
 #[unsafe(no_mangle)]
 pub extern "C" fn legging_write_set(
     venue: &[u8],
@@ -144,13 +125,24 @@ pub extern "C" fn legging_write_set(
     if written.len() != 4 {
         return 9;
     }
-    let r = set_writer::write_set(venue, number, set);
+    let given = venue_bytes::venue_from(venue);
+    let r = set_writer::write_set(given, number, set);
     put_number(written, r.written as u32);
     r.number
 }
 
-// Writes the venue and the message number of a set into a host's memory for each, and returns the number. For a refused set it writes a fresh venue and zeros.
-// A memory of another length can hold no venue or no message number: 9, and the venue's memory stays as it was.
+// The venue and the message number of a set; 9, a fresh venue and 0 where the number's memory has other than four bytes.
+fn read_for(set: &[u8], room: usize) -> Resumed
+    ensures { set_read result ≡ read_for room set.now }
+{
+    if room != 4 {
+        return set_reader::refused(9);
+    }
+    set_reader::read_set(set)
+}
+
+// The venue and the message number of a set, in a host's memory for either; the number is returned. A refused set is a fresh venue and zeros. A memory of
+// another length can hold no venue, and is as it was.
 #[unsafe(no_mangle)]
 pub extern "C" fn legging_read_set(set: &[u8], venue: &mut [u8], number: &mut [u8]) -> u8
     ensures { resumes_as result venue.new number.new ≡ resume_hosted set.now venue.old number.old }
@@ -159,10 +151,12 @@ pub extern "C" fn legging_read_set(set: &[u8], venue: &mut [u8], number: &mut [u
     if venue.len() != venue_bytes::VENUE_SIZE {
         return 9;
     }
+    let r = read_for(set, number.len());
+    let read = r.venue;
+    venue_writer::put_venue(venue, read);
     if number.len() != 4 {
-        return 9;
+        return r.number;
     }
-    let r = set_reader::read_set(set, venue);
     put_number(number, r.message);
     r.number
 }

@@ -1,4 +1,4 @@
--- Which orders cross, test by test, and which go first.
+-- Who crosses with whom, test by test, and who goes first.
 use mathlib.Core.Path.{◌≡◌, refl, sym, ap, ◌∙◌}
 use mathlib.Core.Bool.{Bool, true, false, not, ◌&&◌}
 use mathlib.Core.List.{List}

@@ -1,4 +1,4 @@
--- The code's pick as a choice of the definitions.
+-- The code's pick, as the definitions'.
 use Rattle.rules.specs.declared.Complex.{Complex}
 use Rattle.rules.specs.Base.{Choice, nobody, picked}
 use Rattle.cross_makers.specs.declared.Maker.{Maker}

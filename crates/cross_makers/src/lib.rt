@@ -1,4 +1,4 @@
-// Complex orders with one another: which orders cross, and which cross first.
+// Complex orders with one another: who crosses with whom, and who first.
 ghost use Rattle.std.specs.Prelude.{◌≡◌, ◌&&◌, ◌||◌, ◌≤◌, ◌<◌, eqb, ℤ, pos, nat_abs, neg_ℤ, ◌+ℤ◌};
 ghost use Rattle.std.specs.Int.Signed.{le_z};
 ghost use Rattle.rules.specs.declared.Venue.{Venue};
@@ -21,7 +21,7 @@ pub enum Maker {
     At(usize, Complex),
 }
 
-// The net that an order pays in a cross with m: the cross is at m's limit.
+// What an order pays in a cross with m, at m's limit.
 pub fn net_against(m: Complex) -> i64
     ensures { (result ≡ neg_ℤ m.limit) × (nat_abs result ≤ 2147483648) }
 {
@@ -29,7 +29,7 @@ pub fn net_against(m: Complex) -> i64
     0 - n
 }
 
-// The legs of c are in series s and t at the sides opposite to d and e, with ratios q and r.
+// The legs of c stand in series s and t at the sides opposite to d and e, with ratios q and r.
 fn legs_face(c: Complex, s: u8, d: u8, q: u8, t: u8, e: u8, r: u8) -> bool
     ensures { result ≡ (eqb c.series1 s && eqb c.side1 (opposite d) && eqb c.ratio1 q && eqb c.series2 t && eqb c.side2 (opposite e) && eqb c.ratio2 r) }
 {
@@ -51,7 +51,7 @@ fn legs_face(c: Complex, s: u8, d: u8, q: u8, t: u8, e: u8, r: u8) -> bool
     c.ratio2 == r
 }
 
-// c and m have the same series, and in each series opposite sides and the same ratio, whichever leg comes first.
+// The same series, and in each the reversed side and the same ratio, whichever leg is named first.
 pub fn is_reversed(c: Complex, m: Complex) -> bool
     ensures { result ≡ reversed c m }
 {
@@ -65,7 +65,7 @@ pub fn is_reversed(c: Complex, m: Complex) -> bool
     )
 }
 
-// The limits of two orders allow a cross.
+// The limits of two orders leave room for a cross.
 fn limits_meet(c: Complex, m: Complex) -> bool
     ensures { result ≡ le_z (pos 0) (c.limit +ℤ m.limit) }
 {
@@ -74,7 +74,7 @@ fn limits_meet(c: Complex, m: Complex) -> bool
     0 <= x + y
 }
 
-// At this net c pays no more than at the best regular prices, where both its legs have one; `taken` has the levels that the legs take.
+// Dealt at this net, c pays no more than at the best regular prices, where both its legs have one; taken has the levels that they take.
 fn respects_legs(taken: TakenLevels, c: Complex, net: i64) -> bool
     ensures { (v : Venue) → TakenOf taken c v.regular → result ≡ respects_legs v c net }
 {
@@ -89,7 +89,7 @@ fn respects_legs(taken: TakenLevels, c: Complex, net: i64) -> bool
     net <= arithmetic::net_of(c.ratio1, c.side1, one.price, c.ratio2, c.side2, two.price)
 }
 
-// c can cross with the resting order m.
+// The resting order m is a candidate for c.
 pub fn can_cross(numbers: &[u32], c: Complex, m: Complex) -> bool
     requires { LegsPairReady numbers.now c m }
     ensures { result ≡ crosses (venue_of numbers.now) c m }
@@ -119,7 +119,7 @@ pub fn can_cross(numbers: &[u32], c: Complex, m: Complex) -> bool
     respects_legs(by_maker, m, limit)
 }
 
-// a goes before m: the higher limit first, then the earlier order.
+// a goes before m: the higher limit, then the earlier.
 pub fn crosses_before(a: Complex, m: Complex) -> bool
     ensures { result ≡ limit_then_id a m }
 {
@@ -134,7 +134,7 @@ pub fn crosses_before(a: Complex, m: Complex) -> bool
     a.id < m.id
 }
 
-// The first of the candidate m at place n and of `best`, the first of the candidates after it.
+// The candidate m at place n, beside the best of those after it.
 fn better_maker(best: Maker, n: usize, m: Complex) -> Maker
     ensures { picked_of result ≡ ranked limit_then_id n m (picked_of best) }
 {
@@ -159,7 +159,7 @@ fn is_either(key: usize, one: usize, two: usize) -> bool
     key == two
 }
 
-// The resting order that c crosses with first. The scan reads only orders whose key says that their legs and ratios face those of c.
+// The resting order that c crosses with first. Of the others only those whose legs and ratios have the key are read.
 pub fn first_cross(numbers: &[u32], c: Complex) -> Maker
     requires { LegsReady numbers.now c }
     ensures { picked_of result ≡ first (crosses (venue_of numbers.now) c) limit_then_id (venue_of numbers.now).complex }

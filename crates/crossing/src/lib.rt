@@ -16,7 +16,7 @@ use cross_makers::Maker;
 use levels::TakenLevels;
 use rules::{Cause, Complex};
 
-// The orders at places i (taker) and j (maker) cross for k units at the maker's limit. The taker's legging orders go, then the maker's.
+// The orders at places i and j cross for k units at the limit of the latter; the legging orders of the taker go, then the maker's.
 pub fn cross(numbers: &mut [u32], i: usize, j: usize, k: u32, out: &mut [u8], at: usize) -> usize
     requires { ComplexesReady numbers.old i j }
     ensures result_after { stage (venue_of numbers.new) out.new result ≡ seen out.old at does cross i j k (venue_of numbers.old) }
@@ -31,7 +31,7 @@ pub fn cross(numbers: &mut [u32], i: usize, j: usize, k: u32, out: &mut [u8], at
     removal::remove_of(numbers, m.id, Cause::Executed, out, gone)
 }
 
-// The order at place i crosses while there is an order that it can cross with.
+// The order at place i crosses while there is one that it crosses with.
 pub fn cross_all(numbers: &mut [u32], i: usize, out: &mut [u8], at: usize) -> usize
     requires { RightComplex numbers.old i }
     ensures result_after { stage (venue_of numbers.new) out.new result ≡ seen out.old at does repeat (complex_at (venue_of numbers.old) i).quantity (cross_turn i) (venue_of numbers.old) }
@@ -55,7 +55,7 @@ pub fn cross_all(numbers: &mut [u32], i: usize, out: &mut [u8], at: usize) -> us
     pos
 }
 
-// The net of the best own prices that c would take is at most its limit.
+// The best own prices that c would take net to its limit or less.
 fn can_touch(numbers: &[u32], taken: TakenLevels, c: Complex) -> bool
     requires { TakenReady numbers.now taken c }
     ensures { result ≡ touches (venue_of numbers.now) c }
@@ -113,7 +113,7 @@ fn touch_cause(numbers: &[u32], taken: TakenLevels, c: Complex) -> Cause
     Cause::NoUnit
 }
 
-// Where the order at place i touches, the legging orders at the two sides that it would take go.
+// The legging orders at the two sides that the order at place i would take go, where it touches.
 pub fn touch(numbers: &mut [u32], i: usize, out: &mut [u8], at: usize) -> usize
     requires { RightComplex numbers.old i }
     ensures result_after { stage (venue_of numbers.new) out.new result ≡ seen out.old at does touch i (venue_of numbers.old) }

@@ -107,7 +107,7 @@ no_answer j x m c (q ∷ qs) h k = elim (Memᴰ.cases_cons k) [
 same_number : {j x m c n y k l : ℕ} → answer j x m c ≡ answer n y k l → (j ≡ n) × (x ≡ y)
 same_number e = (cc, cc)
 
--- a message on v brings in the orders of ms, which gives `start`, and its records qs lead from there to w, whose gaps are not yet closed
+-- a message upon v brings in the orders of ms, which gives `start`, and its records qs lead from there to w, whose gaps are not yet closed
 pub record Takes (v : Venue) (qs : List Report) (w : Venue) (ms : List Message) : Type 0 where
   pub start : Venue
   pub admitted : Admitted v start

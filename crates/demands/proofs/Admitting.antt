@@ -29,7 +29,7 @@ use Rattle.rules.proofs.Verdicts.{passed}
 use Rattle.demands.proofs.OrderCarries.{Pays, Ready, pays-there}
 use Rattle.demands.proofs.Homes.{Fine, Home, InRange, good-rr, good-xx, homes_same, other-apart, parent-found}
 
--- What it has to meet ---------------------------------------------------------------------------
+-- What is asked of it ---------------------------------------------------------------------------
 
 -- from v to w by what a message brings in: the invariant holds, and the ids so far are as they were
 pub record Admitted (v w : Venue) : Type 0 where

@@ -79,7 +79,7 @@ demand3 o cs =
 pub always-sound : AlwaysSound
 always-sound o cs = let a = all-account o cs in record { venue = sound-in _ a.invariant; next = a.dated }
 
--- on a sound venue the number is 10, or the message's own
+-- upon a sound venue the number is 10, or the message's own
 not-nine : (v : Venue) (n : ℕ) → SoundAt (suc n) v → (room : ℕ) (bs : List ℕ) → (one_from v n room bs).number ≢ 9
 unfolding ends after step answered
 not-nine v n h room bs =

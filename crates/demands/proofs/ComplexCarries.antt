@@ -1,4 +1,4 @@
--- `Carries v e`: the effect e on v moves the ledger and keeps the invariant. Here for what a complex order does: cross, touch, leg in.
+-- `Carries v e`: the effect e upon v moves the ledger and keeps the invariant. Here for what a complex order does: cross, touch, leg in.
 use mathlib.Core.Path.{◌∙◌, ◌≡◌, ap, refl, subst, sym}
 use mathlib.Core.Bool.{◌&&◌, ◌||◌, false≢true, true}
 use mathlib.Core.Logic.{◌≢◌}
@@ -59,7 +59,7 @@ settle-carries v f =
 
 -- Turns ---------------------------------------------------------------------------------------
 
--- what a turn on v carries, with an invariant E of its own
+-- what a turn upon v carries, with an invariant E of its own
 abbrev pub TurnOk : (Venue → Type 0) → Venue → Turn → Type 0
 TurnOk E v ended = Unit {0}
 TurnOk E v (turned e) = Carries v e × E e.venue

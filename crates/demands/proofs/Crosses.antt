@@ -143,7 +143,7 @@ in_all-more v n (x ∷ ms) m =
     ap (λ (l : List Moment). in_step v x ++ l) (in_all-more w (suc n) ms m)
     ∙ sym (append_assoc (in_step v x) (in_all w (suc n) ms) (in_step (leaves w (suc n) ms) m))
 
--- so far, on the venue that the messages leave
+-- so far, upon the venue that the messages leave
 record Respected (s : Seen) : Type 0 where
   so : Told s
   dealt : Dealt (in_all fresh_venue 0 s.messages) s.reports

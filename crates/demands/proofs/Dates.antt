@@ -1,4 +1,4 @@
--- The settings say what held when: by the induction over calls, beside the truth of the sheet.
+-- The settings tell what held when: by the induction over calls, beside the truth of the sheet.
 use mathlib.Core.Path.{◌∙◌, ◌≡◌, ap, refl, sym}
 use mathlib.Core.Bool.{true}
 use mathlib.Core.List.{List, [], ◌++◌, ◌∷◌}

@@ -1,4 +1,4 @@
--- Generation and sweeps carry the invariant and leave every legging order standing. `Stood v e`: the effect e on v does both.
+-- Generation and sweeps carry the invariant and leave every legging order standing. `Stood v e`: the effect e upon v does both.
 use mathlib.Core.Path.{◌∙◌, ◌≡◌, ap, refl, subst, sym}
 use mathlib.Core.Bool.{Bool, ◌&&◌, false, true}
 use mathlib.Core.Logic.{◌≢◌, inl, inr}
@@ -188,7 +188,7 @@ sweep-stood number v f z =
 
 -- Limited sweep -------------------------------------------------------------------------------
 
--- its 72, which has no quantity
+-- its 72, which tells no quantity
 looked-carries : (k x : ℕ) (v : Venue) → Fine v → Carries v (report (looked k) (with_reached v x))
 unfolding report with_reached total contracts paired crossed_for cancelled_of
 looked-carries k x v f = record {

@@ -1,4 +1,4 @@
--- The invariant of a venue, place by place: what soundness requires (`Soundness` has the test), in the form that every effect keeps.
+-- The invariant of a venue, place by place: what soundness asks (`Soundness` has the test), in the form that every effect keeps.
 -- `Good`: shapes, ranges and ids. `Homes`: each legging order has a resting parent whose leg it is and which has as much open.
 -- `Tidy`: no gap, and free places are all zero; `Showing`: each order shows what it should; these hold between messages.
 -- `Uncrossed`: no series is locked or crossed. `Edited`: editions rise in both numbers. `Priced`: resting prices are on the increments in force.

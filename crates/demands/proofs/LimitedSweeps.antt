@@ -155,7 +155,7 @@ module _ (r : ℕ) where
   unfolding generate_leg make report nothing ◌⟫◌ remove placed counted with_legging with_generations
   leg-keeps n c s d v h = if-by (λ (e : Effect). Reached e.venue) (held c.quantity && makes n v c s d) (λ _. h) (λ _. h)
 
-  -- an effect that leaves the id reached, and writes no 72
+  -- an effect that leaves the id reached, and tells no 72
   record Leaves (e : Effect) : Type 0 where
     left : Reached e.venue
     silent : All NoLook e
@@ -219,7 +219,7 @@ mem-map : (f : ℕ → ℕ) {i : ℕ} {is : List ℕ} → Memᴰ i is → Memᴰ
 mem-map f (Memᴰ.head e) = Memᴰ.head (ap f e)
 mem-map f (Memᴰ.tail m) = Memᴰ.tail (mem-map f m)
 
--- a sweep of the orders at some places of v, on books that have no more of each complex order
+-- a sweep of the orders at some places of v, upon books that have no more of each complex order
 module _ (v : Venue) (places : List ℕ) where
   abbrev ids : List ℕ
   ids = map (λ i. (complex_at v i).id) places

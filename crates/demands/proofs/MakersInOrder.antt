@@ -579,7 +579,7 @@ module _ {x i s d : ℕ} {v u : Venue} (b : Enters x i s d v u) (p : ℕ) where
               (λ fi. struck-so h m.price fi (legging-alone _ _ _ w.regular m (met-first _ _ _ w.regular j m is) (reg w i) refl its-legging fi))
               (λ _. meets-one h j m ch is)
 
-    -- what else is kept
+    -- what is kept besides
     record More (y : Venue) : Type 0 where
       sizes : (n : ℕ) → n ≢ i → (reg y n).series ≡ s → Less (reg y n) (reg u n)
       legging : held (lg y place).quantity ≡ true → lg y place ≡ lg u place

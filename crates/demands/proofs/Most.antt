@@ -1,4 +1,4 @@
--- No message on a sound venue writes more than `most_report_bytes` bytes.
+-- No message upon a sound venue writes more than `most_report_bytes` bytes.
 use mathlib.Core.Path.{◌∙◌, ap, refl}
 use Prim.Native.Nat.{suc, ℕ}
 use native.Mathlib.Omega.{arith}

@@ -1,5 +1,5 @@
 -- "A complex order takes shown size only": what complex orders take from the orders of an id, and what these show after it, is no more than they showed
--- before. So for every effect up to settling, on any venue; from there on nothing is traded.
+-- before. So for every effect up to settling, upon any venue; from there on nothing is traded.
 use mathlib.Core.Path.{◌∙◌, ◌≡◌, ap, refl, subst}
 use mathlib.Core.Bool.{Bool, ◌&&◌, false, not, true}
 use mathlib.Core.Logic.{◌≢◌}

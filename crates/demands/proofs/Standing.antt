@@ -47,7 +47,7 @@ opposite-twice d d2 = omega arith
 -- The hit of `Order`, record by record, of a legging order of c ---------------------------------
 
 module _ (c : Complex) (s d : ℕ) (l : Legging) (apart : s ≢ (other_leg c s).series) (d2 : d < 2) where
-  -- its own trade by an order of this id, the other leg's trades, the 66 and the removals, on the venue as it stands
+  -- its own trade by an order of this id, the other leg's trades, the 66 and the removals, upon the venue as it stands
   abbrev written : Venue → (k id : ℕ) → List Report
   written v k id =
       trade s (opposite d) l.price k id c.id
@@ -119,7 +119,7 @@ filled-no-more : (u v : Venue) (j q : ℕ) → NoMore u v → NoMore (fill_regul
 unfolding regular_at
 filled-no-more u v j q n i = let a = fill-shown j q u i in let b = n i in omega arith
 
--- of a chain on u, where each place has what it has in v, or less of it, and shows no more
+-- of a chain upon u, where each place has what it has in v, or less of it, and shows no more
 module _ {x s d p : ℕ} (v : Venue) where
   maker : (u : Venue) (i q : ℕ) → Lesser (regular_at u i) (regular_at v i) → NoMore u v → rests_at s (opposite d) (regular_at u i) ≡ true → (regular_at u i).price ≡ p →
       q ≤ shown_size (regular_at u i) → FromResting v x s d p (trade (regular_at u i).series d (regular_at u i).price q x (regular_at u i).id)

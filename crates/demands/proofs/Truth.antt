@@ -108,7 +108,7 @@ numbers_of v n (m ∷ ms) = ap (λ (l : List ℕ). suc n ∷ l) (numbers_of (ven
 
 -- What callers see ----------------------------------------------------------------------------
 
--- told the truth so far, on a sound venue
+-- told the truth so far, upon a sound venue
 pub record Told (s : Seen) : Type 0 where
   pub told : answers s.reports ≡ answers_of fresh_venue 0 s.messages
   pub messages : length s.messages ≡ s.done

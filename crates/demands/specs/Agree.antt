@@ -21,7 +21,7 @@ ReadsOne = (v : Venue) (before room : ℕ) (messages : List ℕ) → one v befor
 
 -- A run from fresh ----------------------------------------------------------------------------
 
--- a run is the run on the fresh venue, with no message before it
+-- a run is the run upon the fresh venue, no message having gone before
 abbrev pub FromFresh : Type 0
 FromFresh = (room : ℕ) (messages : List ℕ) → run room messages ≡ run_upon fresh_venue 0 room messages
 
@@ -42,7 +42,7 @@ pub record Progress : Type 0 where
   -- what is left of the list
   pub left : List ℕ
 
--- at first, on a venue, after so many messages
+-- at first, upon a venue, so many messages having gone before
 unfoldable pub fresh_progress : Venue → (before : ℕ) → (messages : List ℕ) → Progress
 fresh_progress v n bs = record { torn = false; done = n; venue = v; bytes = []; left = bs }
 
@@ -81,14 +81,14 @@ OfList (c ∷ cs) p = InFront c p × OfList cs (onward p (call_upon c p.venue p.
 -- The claim -----------------------------------------------------------------------------------
 
 -- Whatever the lengths of the report memories: calls that together do as many messages as a run of the list come to where the run comes.
--- They leave the same venue and the same rest of the list, and wrote the same bytes. That holds on every venue, sound or not.
+-- They leave the same venue and the same rest of the list, and wrote the same bytes. That holds upon every venue, sound or not.
 abbrev pub Agree : Type 0
 Agree = (p : Progress) (room : ℕ) (cs : List Later) → OfList cs p →
     let r = onward p (run_upon p.venue p.done room p.left) in
     (by_calls cs p).done ≡ r.done → by_calls cs p ≡ r
 
 -- "A run's number is 1 or 10 if that ended it, else 0", and 9 where it did not begin: by where the calls stand that did the same messages,
--- and by what a one-message call would then return, given what is left of the run's memory
+-- and by what a one-message call would then return that is lent what is left of the run's memory
 pub data Ended (room : ℕ) (p : Progress) : (number : ℕ) → Type 0 where
   at_end : p.torn ≡ false → p.left ≡ [] → Ended room p 0
   at_torn : p.torn ≡ true → Ended room p 1
@@ -100,7 +100,7 @@ RunEnds = (v : Venue) (before room : ℕ) (messages : List ℕ) → Shaped v →
     let r = run_upon v before room messages in
     Ended room (onward (fresh_progress v before messages) r) r.returned.number
 
--- "a run whose report memory never fills": given so many bytes for each byte of the list, a run on a sound venue is not ended by 10
+-- "a run whose report memory never fills": lent so many bytes for each byte of the list, a run upon a sound venue is not ended by 10
 abbrev pub NeverFills : Type 0
 NeverFills = (v : Venue) (before room : ℕ) (messages : List ℕ) → SoundAt (suc before) v → before + length messages ≤ 4294967295 →
     most_report_bytes * length messages ≤ room → (run_upon v before room messages).returned.number ≢ 10

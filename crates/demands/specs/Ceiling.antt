@@ -20,7 +20,6 @@ generated_by f s now (cancelled id quantity ∷ rs) = generated_by f s now rs
 generated_by f s now (looked count ∷ rs) = generated_by f s now rs
 
 -- of every list of calls, every series, and every 256 messages, numbered from first + 1 to first + 256
--- rule: (m)1
 abbrev pub Ceiling : Type 0
 Ceiling = (o : Opening) (cs : List Later) (series first : ℕ) → series < 8 →
     generated_by (within (suc first) (first + 256)) series 0 (calls (opening o) cs).reports ≤ 20

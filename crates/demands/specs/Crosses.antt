@@ -1,5 +1,5 @@
 -- Request (b), over every list of calls: "A cross is made only if neither party's net is above what best regular prices of both legs
--- would give that party, where both legs have one." Of every 70 written, at its moment: the venue on which the definition makes that
+-- would give that party, where both legs have one." Of every 70 written, at its moment: the venue upon which the definition makes that
 -- cross.
 use Rattle.std.specs.Prelude.{◌≡◌, true, List, [], ◌∷◌, ◌++◌, ℕ, zero, suc, eqb, ℤ, neg_ℤ, take}
 use Rattle.std.specs.Int.Signed.{le_z}
@@ -26,7 +26,7 @@ pub record Moment : Type 0 where
   pub venue : Venue
   pub place : ℕ
 
--- the turns of `repeat turns (cross_turn i)` on v in which something is done
+-- the turns of `repeat turns (cross_turn i)` upon v in which something is done
 unfoldable pub crossings : (turns i : ℕ) → Venue → List Moment
 crossings zero i v = []
 crossings (suc turns) i v =
@@ -61,7 +61,7 @@ in_message (LimitedSweep n) v =
 unfoldable pub in_step : Venue → (message : List ℕ) → List Moment
 in_step v bs = if eqb (refusal v bs) 0 then in_message (message_of bs) v else []
 
--- those of messages on v one after another, after n messages
+-- those of messages upon v one after another, n having gone before
 unfoldable pub in_all : Venue → (n : ℕ) → (messages : List (List ℕ)) → List Moment
 in_all v n [] = []
 in_all v n (m ∷ ms) = in_step v m ++ in_all (venue_after v (suc n) m) (suc n) ms
@@ -105,7 +105,6 @@ pub data Dealt : List Moment → List Report → Type 0 where
 
 -- The claim -----------------------------------------------------------------------------------
 
--- rule: (b)1
 abbrev pub CrossesRespect : Type 0
 CrossesRespect = (o : Opening) (cs : List Later) →
     let s = calls (opening o) cs in

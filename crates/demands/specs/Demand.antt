@@ -1,5 +1,5 @@
 -- Demand 3 of document 01: "one claim about a whole list of messages, not one for each call", in terms of what callers see. In the
--- customer's words: after every list of messages from a fresh venue, each taken on the venue that the last one left, each legging order
+-- customer's words: after every list of messages from a fresh venue, each taken upon the venue that the last one left, each legging order
 -- standing is at the best displayed price of its side and within the band; a hit on it, for any number of contracts up to its quantity,
 -- finds that many of its other leg at one price from regular orders, the net at its complex order's limit or better; and by the reports,
 -- the messages done and the venue left, for every complex order accepted its contracts in the first series equal those in the second and
@@ -7,9 +7,9 @@
 -- ratio × its paired units, and these quantities are units; of an order one to one, whose unit is a contract of each, that is the same
 -- claim. What is quoted below is document 01's paragraph, sentence by sentence, and the sentence of (g) that replaces one for unequal
 -- ratios.
--- The calls are those of `Calls`. That the compiled ones are `Calls.run` and `Calls.one` is what the contracts say, by equation and with
--- no `requires`: of `run` and `one_message` in crates/engine/src/lib.rt, of `legging_run` and `legging_message` in crates/c_api/src/lib.rt.
--- Beyond document 01, runs on a venue (`Calls.run_upon`; `run_upon`, `legging_messages`) stand in the list wherever one-message calls do.
+-- The calls are those of `Calls`. That the compiled ones are `Calls.run` and `Calls.one` is what their contracts in
+-- crates/engine/src/lib.rt say, by equation and with no `requires`: `run` and `one_message`, and for a host `legging_run` and
+-- `legging_message`. Beyond document 01, runs upon a venue (`Calls.run_upon`) stand in the list of calls wherever one-message calls do.
 use Rattle.std.specs.Prelude.{◌≡◌, false, true, ◌%◌, ◌*◌, ◌+◌, ◌/◌, ◌<◌, ◌≤◌, suc, zero, ℕ, drop, get_or, length}
 use mathlib.Core.List.{List, Memᴰ, [], ◌++◌, ◌∷◌}
 use Rattle.std.specs.Int.Signed.{le_z}
@@ -38,19 +38,16 @@ use Rattle.rules.specs.Sums.{cancelled_of, contracts, contracts_at, crossed_for,
 
 -- What a call is given: bytes, and a report memory of a length. "Any contents, any report memory": what stood in that memory is no matter,
 -- as `run`, `one` and `run_upon` say every byte of it.
--- rule: D2
 pub record Given : Type 0 where
   pub room : ℕ
   pub bytes : List ℕ
 
 -- the first `done` messages of a call's bytes, each from its first byte on
--- rule: D2
 unfoldable pub parts : (done : ℕ) → List ℕ → List (List ℕ)
 parts zero bs = []
 parts (suc done) bs = bs ∷ parts done (drop (length_field bs) bs)
 
 -- what callers have seen so far
--- rule: D2
 pub record Seen : Type 0 where
   -- the venue that the last call returned
   pub venue : Venue
@@ -61,12 +58,10 @@ pub record Seen : Type 0 where
   pub reports : List Report
 
 -- "the first call upon a fresh venue", "with the messages done so far, at first none, gone before"
--- rule: D2
 unfoldable pub start : Seen
 start = record { venue = fresh_venue; done = 0; messages = []; reports = [] }
 
 -- one more call, given these bytes: "where a call ends early, it holds of what was done"
--- rule: D2
 unfoldable pub extend : Seen → List ℕ → Call → Seen
 extend s bs c = record {
   venue = c.returned.venue;
@@ -77,12 +72,10 @@ extend s bs c = record {
 
 -- "The list is what a run is given and then what any number of one-message calls are given one after another, or what such calls alone
 -- are given"; "the kinds that come later are in it": the kinds of document 02 are messages like the others
--- rule: D2
 pub data Opening : Type 0 where
   by_run : Given → Opening
   alone : Opening
 
--- rule: D2
 unfoldable pub opening : Opening → Seen
 opening (by_run g) = extend start g.bytes (run g.room g.bytes)
 opening alone = start
@@ -96,27 +89,25 @@ unfoldable pub given_to : Later → Given
 given_to (by_message g) = g
 given_to (by_list g) = g
 
--- what it does on a venue, after so many messages
+-- what it does upon a venue, so many messages having gone before
 unfoldable pub call_upon : Later → Venue → (before : ℕ) → Call
 call_upon (by_message g) v n = one v n g.room g.bytes
 call_upon (by_list g) v n = run_upon v n g.room g.bytes
 
 -- "each later one upon the venue that the last one returned, with the messages done so far … gone before. Nothing else changes the venue
 -- meanwhile." In document 01's list each later call has one message
--- rule: D2
 unfoldable pub calls : Seen → List Later → Seen
 calls s [] = s
 calls s (c ∷ cs) = calls (extend s (given_to c).bytes (call_upon c s.venue s.done)) cs
 
 -- Legging orders ------------------------------------------------------------------------------
 
--- the other leg's trades when k contracts of c's leg in series s are hit: k contracts at its clear price, on the venue as it stands
+-- the other leg's trades when k contracts of c's leg in series s are hit: k contracts at its clear price, upon the venue as it stands
 abbrev pub other_trades : Venue → Complex → (s k : ℕ) → List Report
 other_trades v c s k = (trade_at_price k c.id (other_leg c s).series (other_leg c s).side (other_clear v c s) k v).reports
 
 -- r is a trade by this taker, of this side, with a regular order that rests in the series, on the side that the taker takes, at the
 -- price, for no more than it shows (request (e): "A complex order takes shown size only")
--- rule: D10
 pub record FromResting (v : Venue) (taker series side price : ℕ) (r : Report) : Type 0 where
   -- the maker's place
   pub at : ℕ
@@ -134,9 +125,8 @@ hit_records v c s d l k taker =
     ∷ (other_trades v c s k ++ (pair c.id (leg_net c s d l.price (other_clear v c s)) k ∷ (remove_of c.id Executed v).reports))
 
 -- "The hit for k … is the one written under Order: it finds k regular contracts at the other leg's clear price, its own price and that one
--- netting to N or less": of the legging order l of c at side d of series s, on the venue as it stands, "whether or not ids, places or
+-- netting to N or less": of the legging order l of c at side d of series s, upon the venue as it stands, "whether or not ids, places or
 -- the size ahead of it leave room for an order that brings the hit".
--- rule: D10
 pub record Hit (v : Venue) (c : Complex) (s d : ℕ) (l : Legging) (k : ℕ) : Type 0 where
   -- the other leg has a clear price
   pub clear : held (other_clear v c s) ≡ true
@@ -156,7 +146,6 @@ pub record Hit (v : Venue) (c : Complex) (s d : ℕ) (l : Legging) (k : ℕ) : T
       o.series ≡ s → o.side ≡ opposite d → (hit i l k (put_regular i o v)).reports ≡ hit_records v c s d l k o.id
 
 -- of the legging order l that stands at side d of series s
--- rule: D8, D9, D10, (g)6
 pub record Standing (v : Venue) (s d : ℕ) (l : Legging) : Type 0 where
   -- its complex order rests, and has the leg
   pub rests : is_complex_of l.parent (parent_of v l) ≡ true
@@ -178,7 +167,6 @@ pub record Standing (v : Venue) (s d : ℕ) (l : Legging) : Type 0 where
 -- Accounts ------------------------------------------------------------------------------------
 
 -- "Accepted: done, and met by no refusal": m is one of the messages done, and the 64 of its number has refusal 0
--- rule: D11
 pub record Accepted (s : Seen) (m : Message) : Type 0 where
   pub before : ℕ
   pub is : message_of (get_or s.messages before []) ≡ m
@@ -188,7 +176,6 @@ pub record Accepted (s : Seen) (m : Message) : Type 0 where
 
 -- "Entered is the quantity in its message; still open is the quantity resting in the venue left (0 if none rests). The rest is summed
 -- from the records that name its id": the sums of `Sums`, over all records written
--- rule: D13, (g)8
 pub record ComplexAdds (s : Seen) (c : Complex) : Type 0 where
   -- its contracts in the first series, and those in the second, equal its pairs; request (g): "leg contracts must equal ratio × paired
   -- units in each series, proved for all ratios together; for such an order this replaces demand 3's equality of contracts and pairs". Of
@@ -208,7 +195,6 @@ pub record OrderAdds (s : Seen) (o : Regular) : Type 0 where
 
 -- The claim -----------------------------------------------------------------------------------
 
--- rule: D1
 pub record Holds (s : Seen) : Type 0 where
   pub standing : (series side : ℕ) → side < 2 → held (legging_at s.venue series side).quantity ≡ true →
       Standing s.venue series side (legging_at s.venue series side)
@@ -216,6 +202,5 @@ pub record Holds (s : Seen) : Type 0 where
   pub orders : (o : Regular) → Accepted s (Order o) → OrderAdds s o
 
 -- every opening, and then every list of calls with a message or a list each, in any order
--- rule: D1
 abbrev pub Demand3 : Type 0
 Demand3 = (o : Opening) (cs : List Later) → Holds (calls (opening o) cs)

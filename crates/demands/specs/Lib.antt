@@ -1,6 +1,6 @@
 -- The statements: Demand 3 (Demand), soundness is kept (Soundness), the sheet reads back (ReadsBack), the most that one message writes
--- (Most), a run and the calls that take the same list agree (Agree), the sheet is true of itself (Truth), which orders go by the
--- rank of causes (Ranks), every cross respects the legs (Crosses), the settings are what held when (Dates), what trades take of shown size
+-- (Most), a run and the calls that take the same list agree (Agree), the sheet tells the truth about itself (Truth), which orders go by the
+-- rank of causes (Ranks), every cross respects the legs (Crosses), the settings tell what held when (Dates), what trades take of shown size
 -- and of reserve (Reserve), the ceiling on legging traffic holds (Ceiling), limited sweeps go round (LimitedSweeps).
 --
 -- The notation is explained in the Lib of the rules (crates/rules/specs/Lib.antt). These are new:

@@ -1,5 +1,5 @@
 -- Request (m), of kind 11: "a sweep limited to n resting orders …, starting after the last id that a kind 11 looked at and going round by
--- id", and its record 72. Of one message on a sound venue; and of messages one after another through which two orders stay in rest:
+-- id", and its record 72. Of one message upon a sound venue; and of messages one after another through which two orders stay in rest:
 -- limited sweeps look at them in turn, so every order that stays in rest is looked at once in a round.
 use Rattle.std.specs.Prelude.{◌≡◌, not, ◌≢◌, ◌⊎◌, ℕ, suc, ◌+◌, ◌<◌, min, eqb, ltb, length, take}
 use mathlib.Core.List.{List, Memᴰ, [], ◌++◌, ◌∷◌, map}
@@ -64,7 +64,7 @@ Among ids (crossed taker maker n quantity) = Memᴰ taker ids
 Among ids (cancelled id quantity) = Unit {0}
 Among ids (looked count) = Unit {0}
 
--- the message of this number, a kind 11 limited to n, accepted on v
+-- the message of this number, a kind 11 limited to n, accepted upon v
 pub record Limited (v : Venue) (number : ℕ) (message : List ℕ) (n : ℕ) : Type 0 where
   -- the ids that go round are in rising order
   pub rising : Rises 0 (resting v)
@@ -99,7 +99,7 @@ looks_by (LimitedSweep n) v = looks n v
 unfoldable pub looks_in : Venue → (message : List ℕ) → List ℕ
 looks_in v bs = if eqb (refusal v bs) 0 then looks_by (message_of bs) v else []
 
--- messages on v one after another, after n messages
+-- messages upon v one after another, n having gone before
 unfoldable pub looks_all : Venue → (n : ℕ) → (messages : List (List ℕ)) → List ℕ
 looks_all v n [] = []
 looks_all v n (m ∷ ms) = looks_in v m ++ looks_all (venue_after v (suc n) m) (suc n) ms
@@ -117,14 +117,13 @@ pub data InTurn : (x y : ℕ) → List ℕ → Type 0 where
 
 -- The promise ---------------------------------------------------------------------------------
 
--- rule: (m)7
 pub record LimitedSweeps : Type 0 where
   pub looks_at : (v : Venue) → SoundVenue v → (number : ℕ) (message : List ℕ) (n : ℕ) →
       message_of message ≡ LimitedSweep n → refusal v message ≡ 0 → Limited v number message n
   -- "the last id that a kind 11 looked at": every other message leaves it, and writes no 72
   pub others : (v : Venue) (number : ℕ) (message : List ℕ) → ((n : ℕ) → message_of message ≡ LimitedSweep n → refusal v message ≢ 0) →
       ((venue_after v number message).reached ≡ v.reached) × ForAll NoLook (step v number message).effect.reports
-  -- Any messages on a sound venue, whatever else they do: of two orders that stay in rest neither is looked at twice before the other
+  -- Any messages upon a sound venue, whatever else they do: of two orders that stay in rest neither is looked at twice before the other
   -- is. So between two looks at one of them every other one is looked at once.
   pub in_turn : (v : Venue) (before : ℕ) → SoundAt (suc before) v → (messages : List (List ℕ)) → before + length messages < 4294967296 →
       (x y : ℕ) → x ≢ y → Stays x v before messages → Stays y v before messages →

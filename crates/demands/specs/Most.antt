@@ -1,4 +1,4 @@
--- The most bytes that one message writes, for the host that provides the memory of a one-message call.
+-- The most bytes that one message writes, for whoever lends the memory of a one-message call.
 use Rattle.std.specs.Prelude.{◌≡◌, List, ℕ, suc, ◌+◌, ◌*◌, ◌≤◌, ◌<◌, length}
 use Rattle.rules.specs.declared.Venue.{Venue}
 use Rattle.rules.specs.Records.{Report, encode, encode_all}
@@ -18,12 +18,12 @@ most_report_bytes = 10433
 abbrev pub Parts : Type 0
 Parts = ◌≡◌ {A = ℕ} most_report_bytes (12 + 5 + (per_regular * 128 + per_unequal * 32 + per_legging * 16))
 
--- No message on a sound venue writes more.
+-- No message upon a sound venue writes more.
 abbrev pub WritesAtMost : Type 0
 WritesAtMost = (v : Venue) → SoundVenue v → (number : ℕ) (message : List ℕ) →
     length (encode_all (step v number message).effect.reports) ≤ most_report_bytes
 
--- So a one-message call on a sound venue with as many bytes does not end with refusal 10, its number permitting: its message is done.
+-- So a one-message call upon a sound venue that is lent as many is not ended by refusal 10, its number permitting: its message is done.
 abbrev pub RoomEnough : Type 0
 RoomEnough = (v : Venue) (before : ℕ) → SoundAt (suc before) v → (room : ℕ) (message : List ℕ) →
     before < 4294967295 → most_report_bytes ≤ room →

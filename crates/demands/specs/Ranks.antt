@@ -41,7 +41,7 @@ former_settle v =
 unfoldable pub left_band : Venue → (id : ℕ) → Bool
 left_band v id = let c = find_complex id v.complex in not (in_band v c c.limit)
 
--- the cause of a legging order of the complex order with an id: "each 68 record that said 2 where 5 held too" says 5, every other what it said
+-- a cause told of an order of the complex order with an id: "each 68 record that said 2 where 5 held too" says 5, every other what it said
 unfoldable pub recaused : Venue → (id : ℕ) → Cause → Cause
 recaused v id cause = if eqb (cause_number cause) 2 && left_band v id then OutOfBand else cause
 
@@ -59,9 +59,8 @@ retold v (looked count) = looked count
 -- The promise ---------------------------------------------------------------------------------
 
 -- of every venue, sound or not
--- rule: (a)2
 pub record Unaffected : Type 0 where
-  -- whether an order passes its test, which is all that generation and soundness test, does not depend on the rank
+  -- whether an order passes its test, which is all that generation and soundness ask of it, does not turn on the rank
   pub passes : (v : Venue) (place : ℕ) (l : Legging) → stands (verdict v place l) ≡ stands (former_verdict v place l)
   -- "Which orders go is unaffected": the same legging orders stay, and the venue left is the same
   pub venue : (v : Venue) → (settle v).venue ≡ (former_settle v).venue

@@ -1,4 +1,4 @@
--- The sheet reads back: a report memory gives the records written, and all that a message writes on a sound venue can be read so.
+-- The sheet reads back: a report memory gives the records written, and all that a message writes upon a sound venue can be read so.
 use Rattle.std.specs.Prelude.{◌≡◌, List, ◌<◌, ◌≤◌, ℕ, length}
 use Rattle.rules.specs.declared.Venue.{Venue}
 use Rattle.rules.specs.Bytes.{bytes}
@@ -11,12 +11,12 @@ use Rattle.demands.specs.Soundness.{SoundVenue}
 abbrev pub ReadsBack : Type 0
 ReadsBack = (room : ℕ) (rs : List Report) → ForAll Fits rs → length (encode_all rs) ≤ room → records (sheet room rs) ≡ rs
 
--- on a sound venue every record of a message fits its widths
+-- upon a sound venue every record of a message fits its widths
 abbrev pub StepFits : Type 0
 StepFits = (v : Venue) → SoundVenue v → (number : ℕ) → number < 4294967296 → (message : List ℕ) →
     ForAll Fits (step v number message).effect.reports
 
--- the definition gives the whole report memory: it has the length of the memory given, whatever the call does
+-- the report memory is all said: it has the length that was lent, whatever the call does
 pub record WholeMemory : Type 0 where
   pub by_run : (room : ℕ) (bytes : List ℕ) → length (run room bytes).report ≡ room
   pub by_one : (v : Venue) (before room : ℕ) (bytes : List ℕ) → length (one v before room bytes).report ≡ room

@@ -38,8 +38,7 @@ pub data AtMostTwo (shown_size reserve : ℕ) : List ℕ → Type 0 where
   of_shown : (k : ℕ) → k ≤ shown_size → AtMostTwo shown_size reserve (k ∷ [])
   of_both : (k : ℕ) → k ≤ reserve → AtMostTwo shown_size reserve (shown_size ∷ k ∷ [])
 
--- "in trades of its own": of any message that brings an order, on a sound venue, with the order that rests at place i
--- rule: (e)2
+-- "in trades of its own": of any message that brings an order, upon a sound venue, with the order that rests at place i
 abbrev pub TwoTrades : Type 0
 TwoTrades = (v : Venue) → SoundVenue v → (number : ℕ) (message : List ℕ) (o : Regular) → message_of message ≡ Order o →
     (i : ℕ) → held (regular_at v i).quantity ≡ true →
@@ -53,7 +52,7 @@ pub record Fill : Type 0 where
   pub maker : ℕ
   pub quantity : ℕ
 
--- what a record says of the trades of a taker at a price, and of all of them, in order
+-- what a record tells of the trades of a taker at a price, and of all of them, in order
 unfoldable pub fill_of : (taker price : ℕ) → Report → List Fill
 fill_of x p (answer n f m c) = []
 fill_of x p (trade s d price q taker maker) = if eqb taker x && eqb price p then record { maker = maker; quantity = q } ∷ [] else []
@@ -95,8 +94,7 @@ pub data InOrder (v : Venue) (s e p : ℕ) : SizeKind → (low : ℕ) → List F
   of_legging : {low : ℕ} (k : ℕ) → (legging_at v s e).price ≡ p → k ≤ (legging_at v s e).quantity →
       InOrder v s e p at_legging low (record { maker = (legging_at v s e).parent; quantity = k } ∷ [])
 
--- of any message that brings an order, on a sound venue, at any price
--- rule: (e)2
+-- of any message that brings an order, upon a sound venue, at any price
 abbrev pub MakersInOrder : Type 0
 MakersInOrder = (v : Venue) → SoundVenue v → (number : ℕ) (message : List ℕ) (o : Regular) → message_of message ≡ Order o → (p : ℕ) →
     InOrder v o.series (opposite o.side) p at_shown 0 (fills_of o.id p (step v number message).effect.reports)
@@ -130,9 +128,8 @@ taken_from x y (crossed taker maker n q) = 0
 taken_from x y (cancelled i q) = 0
 taken_from x y (looked n) = 0
 
--- "A complex order takes shown size only": of any message, on a sound venue, all complex orders together from the order that rests at
+-- "A complex order takes shown size only": of any message, upon a sound venue, all complex orders together from the order that rests at
 -- place i
--- rule: (e)6
 abbrev pub ShownOnly : Type 0
 ShownOnly = (v : Venue) → SoundVenue v → (number : ℕ) (message : List ℕ) (i : ℕ) → held (regular_at v i).quantity ≡ true →
     total (taken_from (arriving (message_of message)) (regular_at v i).id) (step v number message).effect.reports

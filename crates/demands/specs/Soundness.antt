@@ -41,7 +41,7 @@ AlwaysSound = (o : Opening) (cs : List Later) →
     let s = calls (opening o) cs in
     SoundAt (suc s.done) s.venue
 
--- and a call on a venue that came from the calls never answers 9, with a message or with a list
+-- and a call upon a venue that came from the calls never answers 9, with a message or with a list
 abbrev pub NeverNine : Type 0
 NeverNine = (o : Opening) (cs : List Later) (c : Later) →
     let s = calls (opening o) cs in

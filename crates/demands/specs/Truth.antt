@@ -1,4 +1,4 @@
--- The sheet is true of itself: one answer for each message done, numbered without a gap, with the mask and the count of the
+-- The sheet tells the truth about itself: one answer for each message done, numbered without a gap, with the mask and the count of the
 -- venue after it.
 use Rattle.std.specs.Prelude.{◌≡◌, ◌≢◌, List, [], ◌∷◌, ℕ, zero, suc, length}
 use Rattle.rules.specs.declared.Venue.{Venue}
@@ -49,7 +49,7 @@ pub record OneMessage : Type 0 where
 
 -- A list of calls -----------------------------------------------------------------------------
 
--- the answers of messages on v one after another, after n messages, and the venue that they leave
+-- the answers of messages upon v one after another, n having gone before, and the venue that they leave
 unfoldable pub answers_of : Venue → (n : ℕ) → (messages : List (List ℕ)) → List Report
 answers_of v n [] = []
 answers_of v n (m ∷ ms) = answer_of v (suc n) m ∷ answers_of (venue_after v (suc n) m) (suc n) ms
@@ -58,7 +58,7 @@ unfoldable pub leaves : Venue → (n : ℕ) → (messages : List (List ℕ)) →
 leaves v n [] = v
 leaves v n (m ∷ ms) = leaves (venue_after v (suc n) m) (suc n) ms
 
--- the numbers of answers
+-- the numbers that answers tell
 unfoldable pub numbers : List Report → List ℕ
 numbers [] = []
 numbers (answer number refusal mask count ∷ rs) = number ∷ numbers rs
@@ -79,7 +79,7 @@ from n (suc count) = n ∷ from (suc n) count
 pub record Truthful (s : Seen) : Type 0 where
   -- "message number u32 from 1": one answer for each message done, numbered without a gap over the calls
   pub numbered : numbers s.reports ≡ from 1 s.done
-  -- each has its message's refusal, and the mask and the count of the venue after it
+  -- each tells its message's refusal, and the mask and the count of the venue after it
   pub told : answers s.reports ≡ answers_of fresh_venue 0 s.messages
   pub messages : length s.messages ≡ s.done
   pub venue : s.venue ≡ leaves fresh_venue 0 s.messages

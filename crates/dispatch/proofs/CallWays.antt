@@ -1,4 +1,4 @@
--- An arrival and a turn on a memory, by the ways in which each ends.
+-- An arrival and a turn upon a memory, by the ways in which each ends.
 use mathlib.Core.Path.{◌≡◌, refl, sym, ap, ap₂, ◌∙◌}
 use mathlib.Core.Bool.{Bool, true, false, true≢false}
 use mathlib.Core.Logic.{◌≢◌, inl, inr}
@@ -9,23 +9,23 @@ use lib.Dec.{eqb}
 use lib.ListN.{length, set, take, drop}
 use lib.Seq.{get_or-take, get_or-drop}
 use borrow.Author.Tests.{eq-eqb, ne_eqb, eqb-true}
-use borrow.Rule.Slice.PartMut.{put_mid, put_same}
+use borrow.Rule.Slice.PartMut.{put_mid}
+use Rattle.rules.specs.declared.Returned.{Returned}
 use Rattle.rules.specs.Base.{if◌then◌else◌}
-use Rattle.rules.specs.Bytes.{u8_at}
+use Rattle.rules.specs.Bytes.{u8_at, u32_at}
 use Rattle.rules.specs.Records.{sheet}
 use Rattle.rules.specs.Calls.{Call, called, ends}
 use Rattle.places.proofs.Tables.{upto-length}
-use Rattle.engine.specs.declared.Ended.{Ended}
-use Rattle.engine.specs.Hosts.{OnBytes, on_bytes}
+use Rattle.venue_bytes.specs.Held.{venue_size, venue_from}
+use Rattle.engine.specs.Runs.{call_of}
 use Rattle.layer.specs.Layer.{Lane, Layer, lane_at, gets_nine, layer_sound, arrive, next, head, head_call, idle, serve, turn}
 use Rattle.layer.proofs.Ways.{ending, not_done, Did, does, turn_by}
 use Rattle.layer.proofs.PromisesLaws.{gets-nine, each_lane, lane-wait, answered}
 use Rattle.dispatch.specs.declared.TurnReturned.{TurnReturned}
-use Rattle.lanes.specs.Memory.{count_at, places_at, lane_size, last_at, layer_size, lane_part, layer_from, with_part, joined_bytes, head_called, advanced_bytes}
+use Rattle.lanes.specs.Memory.{done_at, count_at, places_at, lane_size, last_at, layer_size, place_from, lane_part, layer_from, with_part, joined_bytes, head_called, advanced_bytes}
 use Rattle.lanes.specs.Checks.{layer_sound_but}
 use Rattle.dispatch.specs.Hosts.{reply_of, arrive_held, TurnReply, idle_returned, turn_reply_of, served_bytes, turn_leaves, turn_held}
-use Rattle.dispatch.specs.Served.{ended_of, lane_served}
-use Rattle.numbers_writer.proofs.Tables.{part-back}
+use Rattle.lanes.proofs.Bytes.{part-back}
 use Rattle.lanes.proofs.Figures.{waits-at}
 use Rattle.lanes.proofs.Places.{waits-short}
 use Rattle.lanes.proofs.ChecksLaws.{but-wait, but-sound, but-none}
@@ -33,7 +33,7 @@ use Rattle.lanes.proofs.WaitJoined.{joined-size}
 use Rattle.lanes.proofs.HeadCalled.{head-called, advanced-size}
 use Rattle.dispatch.proofs.Held.{Lends, lends, lends-next}
 
--- A lane as a slice ---------------------------------------------------------------------------
+-- A lane as it is lent ------------------------------------------------------------------------
 
 module _ (m : List ℕ) (v k : ℕ) (e : k ≡ lane_size) where
   part-is : take k (drop (lane_size * v) m) ≡ lane_part m v
@@ -116,7 +116,7 @@ module _ (m : List ℕ) (size : length m ≡ layer_size) (room : ℕ) (z : List 
       (turn_by (λ t. turn_reply_of (idle_returned 9) m z ≡ turn_leaves m room t) l room (λ _. ap (turn_reply_of (idle_returned 9) m) e)
       (λ s _. absurd (true≢false (sym s ∙ u))) (λ s _ _. absurd (true≢false (sym s ∙ u))) (λ s _ _. absurd (true≢false (sym s ∙ u))))
 
-  -- on a sound layer
+  -- upon a sound layer
   sound-by : layer_sound l ≡ true → (r : TurnReturned) (x : List ℕ) → (next l ≡ 4 → turn_reply_of r x z ≡ turn_leaves m room (idle l room 0)) →
       (next l ≢ 4 → (head_call (lane_at l (next l)) room).returned.done ≡ 0 → turn_reply_of r x z ≡ turn_leaves m room (idle l room (head_call (lane_at l (next l)) room).returned.number)) →
       (next l ≢ 4 → (head_call (lane_at l (next l)) room).returned.done ≢ 0 → turn_reply_of r x z ≡ turn_leaves m room (serve l (next l) (head_call (lane_at l (next l)) room))) →
@@ -135,7 +135,7 @@ pub record Serves (m : List ℕ) (v : ℕ) : Type 0 where
   pub here : v ≡ next (layer_from m)
   pub some : v ≢ 4
 
--- its lane, as a slice
+-- its lane, as it is lent
 module _ (m : List ℕ) (v : ℕ) (x : Serves m v) where
   other : next (layer_from m) ≢ 4
   other q = x.some (x.here ∙ q)
@@ -173,44 +173,27 @@ module _ (m : List ℕ) (v : ℕ) (x : Serves m v) where
     lent-short = rw lent_is (waits-short (lane_part m (next (layer_from m))) 0 lends-it.fine lent-next.2)
 
     -- the call with the head of its wait
-    module _ (room : ℕ) (r : Ended) (ys z : List ℕ) (call : on_bytes r ys z ≡ lane_served lent room) where
+    module _ (room : ℕ) (r : Returned) (z : List ℕ) (call : call_of r z ≡ head_called lent room) where
       abbrev c : Lane
       c = lane_at (layer_from m) (next (layer_from m))
 
-      is : head_called lent room ≡ head_call c room
+      is : call_of r z ≡ head_call c room
       is =
-          ap (λ (y : List ℕ). head_called y room) lent_is
+          call ∙ ap (λ (y : List ℕ). head_called y room) lent_is
           ∙ sym (ap (λ (d : Lane). head_call d room) lends-it.at ∙ head-called (lane_part m (next (layer_from m))) room lent-next.2)
 
-      ended_is : r ≡ ended_of (head_call c room)
-      unfolding lane_served
-      ended_is = ap (λ (y : OnBytes). y.ended) call ∙ ap ended_of is
-
-      report-is : z ≡ (head_call c room).report
-      unfolding lane_served
-      report-is = ap (λ (y : OnBytes). y.report) call ∙ ap (λ (y : Call). y.report) is
-
-      lane-is : ys ≡ (if eqb (head_call c room).returned.done 0 then lent else advanced_bytes lent (head_call c room).returned.number (head_call c room).returned.venue)
-      unfolding lane_served
-      lane-is =
-          ap (λ (y : OnBytes). y.venue) call
-          ∙ ap (λ (y : Call). if eqb y.returned.done 0 then lent else advanced_bytes lent y.returned.number y.returned.venue) is
-
-      pub turn-ended : r.done ≡ 0 → turn_reply_of (idle_returned r.number) (put_mid (lane_size * v) k m ys) z ≡ turn_held m room
+      pub turn-ended : r.done ≡ 0 → turn_reply_of (idle_returned r.number) m z ≡ turn_held m room
       unfolding turn_leaves idle head_call called ends
       turn-ended d =
-          let f : (head_call c room).returned.done ≡ 0 = sym (ap (λ (y : Ended). y.done) ended_is) ∙ d in
-          let number : r.number ≡ (head_call c room).returned.number = ap (λ (y : Ended). y.number) ended_is in
+          let w : ℕ = next (layer_from m) in
+          let f : (head_call c room).returned.done ≡ 0 = sym (ap (λ (y : Call). y.returned.done) is) ∙ d in
           let g : z ≡ sheet room [] =
-          report-is ∙ ap (λ (y : Call). y.report) (not_done c.venue c.done room (head_call c room) (ending c.venue c.done room (head c)) f) in
-          let same : ys ≡ lent = lane-is ∙ rw (eq-eqb (head_call c room).returned.done 0 f) in
-          let back : put_mid (lane_size * v) k m ys ≡ m = ap (put_mid (lane_size * v) k m) same ∙ put_same (lane_size * v) k m in
-          ap (λ (b : List ℕ). turn_reply_of (idle_returned r.number) b z) back
-          ∙ by m x.size room z (idle_returned r.number) m
+          ap (λ (y : Call). y.report) (is ∙ not_done c.venue c.done room (head_call c room) (ending c.venue c.done room (head c)) f) in
+          by m x.size room z (idle_returned r.number) m
           (turn_by (λ t. turn_reply_of (idle_returned r.number) m z ≡ turn_leaves m room t) (layer_from m) room
-          (λ u. ap₂ (λ (n : ℕ) (y : List ℕ). turn_reply_of (idle_returned n) m y) (number ∙ nine u (gets_nine c) refl) g)
+          (λ u. ap₂ (λ (n : ℕ) (y : List ℕ). turn_reply_of (idle_returned n) m y) (ap (λ (y : Call). y.returned.number) is ∙ nine u (gets_nine c) refl) g)
           (λ _ q. absurd (other q))
-          (λ _ _ _. ap₂ (λ (n : ℕ) (y : List ℕ). turn_reply_of (idle_returned n) m y) number g)
+          (λ _ _ _. ap₂ (λ (n : ℕ) (y : List ℕ). turn_reply_of (idle_returned n) m y) (ap (λ (y : Call). y.returned.number) is) g)
           (λ _ _ n. absurd (n f)))
         where
           -- of an unsound layer it is the venue that got the 9
@@ -218,31 +201,38 @@ module _ (m : List ℕ) (v : ℕ) (x : Serves m v) where
           nine u true e = eqb-true (head_call c room).returned.number 9 (sym (gets-nine c room (head c)) ∙ e)
           nine u false e = absurd (true≢false (sym (sound-with e) ∙ u))
 
-      pub turn-serves : r.done ≢ 0 → turn_reply_of (record { number = r.number; done = r.done; written = r.written; served = v }) (set (put_mid (lane_size * v) k m ys) last_at v) z ≡ turn_held m room
-      unfolding turn_leaves serve served_bytes head_call
-      turn-serves d =
-          let w : ℕ = next (layer_from m) in
-          let part : List ℕ = lane_part m w in
-          let f : (head_call c room).returned.done ≢ 0 = λ n. d (ap (λ (y : Ended). y.done) ended_is ∙ n) in
-          let s : layer_sound (layer_from m) ≡ true = sound-with (gets-nine c room (head c) ∙ ne_eqb (head_call c room).returned.number 9 (did f).not9) in
-          let a : head_call c room ≡ head_called part room = sym is ∙ ap (λ (y : List ℕ). head_called y room) lent_is in
-          let g : (head_called part room).returned.done ≢ 0 = λ n. f (ap (λ (y : Call). y.returned.done) a ∙ n) in
-          let q : ys ≡ advanced_bytes part (head_called part room).returned.number (head_called part room).returned.venue =
-          lane-is ∙ rw (ne_eqb (head_call c room).returned.done 0 f)
-          (ap (λ (y : List ℕ). advanced_bytes y (head_call c room).returned.number (head_call c room).returned.venue) lent_is
-          ∙ ap (λ (y : Call). advanced_bytes part y.returned.number y.returned.venue) a) in
-          let h = lends-it in
-          let fits : length ys ≡ lane_size = ap length q ∙ advanced-size part room h.size h.fine lent-next.2 h.few g in
-          let memory : set (put_mid (lane_size * v) k m ys) last_at v ≡ served_bytes m w room =
-          ap (λ (y : List ℕ). set y last_at v) (anew m v k e ys fits ∙ ap (with_part m v) q)
-          ∙ ap (λ (i : ℕ). set (with_part m i (advanced_bytes part (head_called part room).returned.number (head_called part room).returned.venue)) last_at i) x.here in
-          let pick : (if eqb w 4 then m else served_bytes m w room) ≡ served_bytes m w room = rw (ne_eqb w 4 other) in
-          sound-by m x.size room z s _ _ (λ o. absurd (other o)) (λ _ n. absurd (f n))
-          (λ _ _. ap₂ (λ (y : Ended) (t : List ℕ). F y v (set (put_mid (lane_size * v) k m ys) last_at v) t) ended_is report-is
-          ∙ ap₂ (λ (i : ℕ) (b : List ℕ). F (ended_of (head_call c room)) i b (head_call c room).report) x.here (memory ∙ sym pick))
-        where
-          did : (head_call c room).returned.done ≢ 0 → Did c.venue c.done room (head_call c room)
-          did n = unfold head_call in (does c.venue c.done room _ (ending c.venue c.done room (head c)) n)
+      module _ (d : r.done ≢ 0) where
+        pub lent-counted : u32_at lent done_at < 4294967295
+        unfolding head_called
+        lent-counted =
+            let q : (head_called lent room).returned.done ≢ 0 = λ n. d (ap (λ (y : Call). y.returned.done) call ∙ n) in
+            let h = (does (venue_from (take venue_size lent)) (u32_at lent done_at) room (head_called lent room)
+            (ending (venue_from (take venue_size lent)) (u32_at lent done_at) room (place_from lent 0)) q).counted in
+            omega arith
 
-          F : Ended → ℕ → List ℕ → List ℕ → TurnReply
-          F y i b t = turn_reply_of (record { number = y.number; done = y.done; written = y.written; served = i }) b t
+        pub turn-serves : (ys : List ℕ) → ys ≡ advanced_bytes lent r.number r.venue →
+            turn_reply_of (record { number = r.number; done = r.done; written = r.written; served = v }) (set (put_mid (lane_size * v) k m ys) last_at v) z ≡ turn_held m room
+        unfolding turn_leaves serve served_bytes head_call
+        turn-serves ys p =
+            let w : ℕ = next (layer_from m) in
+            let part : List ℕ = lane_part m w in
+            let a : call_of r z ≡ head_called part room = call ∙ ap (λ (y : List ℕ). head_called y room) lent_is in
+            let f : (head_call c room).returned.done ≢ 0 = λ n. d (ap (λ (y : Call). y.returned.done) is ∙ n) in
+            let s : layer_sound (layer_from m) ≡ true = sound-with (gets-nine c room (head c) ∙ ne_eqb (head_call c room).returned.number 9 (did f).not9) in
+            let g : (head_called part room).returned.done ≢ 0 = λ n. d (ap (λ (y : Call). y.returned.done) a ∙ n) in
+            let q : ys ≡ advanced_bytes part (head_called part room).returned.number (head_called part room).returned.venue =
+            p ∙ ap (λ (y : List ℕ). advanced_bytes y r.number r.venue) lent_is ∙ ap (λ (y : Call). advanced_bytes part y.returned.number y.returned.venue) a in
+            let h = lends-it in
+            let fits : length ys ≡ lane_size = ap length q ∙ advanced-size part room h.size h.fine lent-next.2 h.few g in
+            let memory : set (put_mid (lane_size * v) k m ys) last_at v ≡ served_bytes m w room =
+            ap (λ (y : List ℕ). set y last_at v) (anew m v k e ys fits ∙ ap (with_part m v) q)
+            ∙ ap (λ (i : ℕ). set (with_part m i (advanced_bytes part (head_called part room).returned.number (head_called part room).returned.venue)) last_at i) x.here in
+            let pick : (if eqb w 4 then m else served_bytes m w room) ≡ served_bytes m w room = rw (ne_eqb w 4 other) in
+            sound-by m x.size room z s _ _ (λ o. absurd (other o)) (λ _ n. absurd (f n))
+            (λ _ _. ap (λ (y : Call). F y v (set (put_mid (lane_size * v) k m ys) last_at v)) is ∙ ap₂ (F (head_call c room)) x.here (memory ∙ sym pick))
+          where
+            did : (head_call c room).returned.done ≢ 0 → Did c.venue c.done room (head_call c room)
+            did n = unfold head_call in (does c.venue c.done room _ (ending c.venue c.done room (head c)) n)
+
+            F : Call → ℕ → List ℕ → TurnReply
+            F y i b = turn_reply_of (record { number = y.returned.number; done = y.returned.done; written = y.returned.written; served = i }) b y.report

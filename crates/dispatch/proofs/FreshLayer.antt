@@ -16,7 +16,7 @@ use Rattle.venue_bytes.proofs.Rows.{Written, written_all, written-room, written_
 use Rattle.layer.specs.Layer.{Lane, fresh_lane, fresh_layer}
 use Rattle.lanes.specs.Memory.{lane_size, last_at, layer_size, lane_bytes, layer_bytes}
 use Rattle.dispatch.specs.Hosts.{reply_of, fresh_held}
-use Rattle.numbers_writer.proofs.Tables.{part-back}
+use Rattle.lanes.proofs.Bytes.{part-back}
 use Rattle.lanes.proofs.Fresh.{fresh-size, fresh-whole, lanes-length}
 
 -- each lane is the fresh one

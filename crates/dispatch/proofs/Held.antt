@@ -1,4 +1,4 @@
--- The calls on a memory are those on the layer that it holds.
+-- The calls upon a memory are those upon the layer that it holds.
 use mathlib.Core.Path.{◌≡◌, refl, sym, ap, ◌∙◌}
 use mathlib.Core.Bool.{true}
 use mathlib.Core.Logic.{◌≢◌}
@@ -13,21 +13,18 @@ use Rattle.rules.specs.Bytes.{u8_at}
 use Rattle.rules.specs.Calls.{Call}
 use Rattle.rules.proofs.Tests.{and_l}
 use Rattle.places.proofs.Tables.{upto-length}
-use Rattle.layer.specs.Layer.{Lane, Layer, Asked, arrival, turning, fresh_layer, lane_at, with_lane, wait_sound, layer_sound}
-use Rattle.layer.specs.Layer.{joins, arrive, waiting, next, head_call, idle, advanced, serve, turn, after, after_all}
+use Rattle.layer.specs.Layer.{Lane, Layer, Asked, arrival, turning, lane_at, with_lane, wait_sound, layer_sound, joins, arrive, waiting, next, head_call, idle, advanced, serve, turn, after, after_all}
 use Rattle.layer.proofs.Ways.{Waits, arrive-by, turn_by}
 use Rattle.layer.proofs.Lanes.{next-some}
 use Rattle.layer.proofs.PromisesLaws.{each_lane, lane-wait}
-use Rattle.lanes.specs.Canonical.{Canonical}
-use Rattle.lanes.specs.Memory.{count_at, lane_size, last_at, layer_size, lane_from, lane_part, lane_of, layer_from, layer_bytes, with_part, joined_bytes, head_called, advanced_bytes}
-use Rattle.dispatch.specs.Hosts.{fresh_held, arrive_held, served_bytes, turn_leaves, turn_held, memory_after, memory_after_all, Held, LeftCanonical}
+use Rattle.lanes.specs.Memory.{count_at, lane_size, last_at, layer_size, lane_from, lane_part, lane_of, layer_from, with_part, joined_bytes, head_called, advanced_bytes}
+use Rattle.dispatch.specs.Hosts.{fresh_held, arrive_held, served_bytes, turn_leaves, turn_held, memory_after, memory_after_all, Held}
 use Rattle.lanes.proofs.Bytes.{part_length}
 use Rattle.lanes.proofs.Figures.{lane-of}
-use Rattle.lanes.proofs.Lent.{with_size, lane-anew, last-anew, canonical-anew, canonical-last}
-use Rattle.lanes.proofs.WaitJoined.{joined-size, lane-joined, joined-canonical}
-use Rattle.lanes.proofs.HeadCalled.{head-called, lane-advanced, advanced-size, advanced-canonical}
-use Rattle.lanes.proofs.Fresh.{layer-size, fresh-whole, fresh-held, layer-canonical}
-use Rattle.lanes.proofs.BytesBack.{equal-bytes}
+use Rattle.lanes.proofs.Lent.{with_size, lane-anew, last-anew}
+use Rattle.lanes.proofs.WaitJoined.{joined-size, lane-joined}
+use Rattle.lanes.proofs.HeadCalled.{head-called, lane-advanced, advanced-size}
+use Rattle.lanes.proofs.Fresh.{fresh-held}
 
 -- A lane with its figures in range -------------------------------------------------------------
 
@@ -74,10 +71,9 @@ lends-next m size s n =
 
 -- A memory after a call -----------------------------------------------------------------------
 
-pub record Holds (before memory : List ℕ) (l : Layer) : Type 0 where
+pub record Holds (memory : List ℕ) (l : Layer) : Type 0 where
   pub is : layer_from memory ≡ l
   pub size : length memory ≡ layer_size
-  pub canonical : Canonical before → Canonical memory
 
 module _ (m : List ℕ) (size : length m ≡ layer_size) where
   abbrev l : Layer
@@ -86,10 +82,10 @@ module _ (m : List ℕ) (size : length m ≡ layer_size) where
   waits : layer_sound l ≡ true → (v : ℕ) → wait_sound (lane_at l v).wait ≡ true
   waits s v = lane-wait (lane_at l v) (each_lane l s v)
 
-  same : Holds m m l
-  same = record { is = refl; size = size; canonical = λ c. c }
+  same : Holds m l
+  same = record { is = refl; size = size }
 
-  joined-held : (v : ℕ) (b : List ℕ) → Waits l v b → Holds m (with_part m v (joined_bytes (lane_part m v) b)) (with_lane l v (joins b (lane_at l v)))
+  joined-held : (v : ℕ) (b : List ℕ) → Waits l v b → Holds (with_part m v (joined_bytes (lane_part m v) b)) (with_lane l v (joins b (lane_at l v)))
   joined-held v b w =
       let x = lends m v size (waits w.sound v) w.venue in
       let k : u8_at (lane_part m v) count_at < 8 = (let r = w.room in omega (arith, count-is (lane_part m v), ap (λ (c : Lane). length c.wait) x.at)) in
@@ -98,19 +94,18 @@ module _ (m : List ℕ) (size : length m ≡ layer_size) where
       record {
         is = lane-anew m v ys size w.venue fits ∙ ap (with_lane l v) (lane-joined (lane_part m v) b x.size k w.short x.fine ∙ ap (joins b) (sym x.at));
         size = with_size m v ys size w.venue fits;
-        canonical = λ c. canonical-anew m v ys size w.venue fits c (joined-canonical (lane_part m v) b x.size k w.short (c v w.venue));
       }
 
-  held-arrive : (v : ℕ) (b : List ℕ) → Holds m (arrive_held m v b).memory (arrive l v b).layer
+  held-arrive : (v : ℕ) (b : List ℕ) → Holds (arrive_held m v b).memory (arrive l v b).layer
   unfolding arrive_held
   held-arrive v b =
       rw (eq-eqb (length m) layer_size size)
-      (arrive-by (λ a. Holds m (if eqb a.number 0 then with_part m v (joined_bytes (lane_part m v) b) else m) a.layer) l v b
+      (arrive-by (λ a. Holds (if eqb a.number 0 then with_part m v (joined_bytes (lane_part m v) b) else m) a.layer) l v b
       (λ x n _. rw (ne_eqb x 0 n) same) (λ w. joined-held v b w))
 
   module _ (room : ℕ) where
     served-held : layer_sound l ≡ true → next l ≢ 4 → (head_call (lane_at l (next l)) room).returned.done ≢ 0 →
-        Holds m (served_bytes m (next l) room) (record { lanes = set l.lanes (next l) (advanced (lane_at l (next l)) (head_call (lane_at l (next l)) room)); last = next l })
+        Holds (served_bytes m (next l) room) (record { lanes = set l.lanes (next l) (advanced (lane_at l (next l)) (head_call (lane_at l (next l)) room)); last = next l })
     unfolding served_bytes with_lane
     served-held s n d =
         let k = lends-next m size (λ v _. waits s v) n in
@@ -128,61 +123,31 @@ module _ (m : List ℕ) (size : length m ≡ layer_size) where
               ∙ ap (λ (c : Lane). record { lanes = set l.lanes (next l) c; last = next l })
               (lane-advanced bs room x.size x.fine k.2 x.few did ∙ ap (λ (c : Lane). advanced c (head_call c room)) (sym x.at));
           size = length-set (with_part m (next l) ys) last_at (next l) ∙ whole;
-          canonical = λ c. canonical-last (with_part m (next l) ys) (next l) whole
-              (canonical-anew m (next l) ys size k.0 fits c (advanced-canonical bs room x.size x.fine k.2 x.few did (c (next l) k.0)));
         }
 
-    held-turn : Holds m (turn_held m room).memory (turn l room).layer
+    held-turn : Holds (turn_held m room).memory (turn l room).layer
     unfolding turn_held turn_leaves idle serve
     held-turn =
         rw (eq-eqb (length m) layer_size size)
-        (turn_by (λ t. Holds m (if eqb t.served 4 then m else served_bytes m t.served room) t.layer) l room
+        (turn_by (λ t. Holds (if eqb t.served 4 then m else served_bytes m t.served room) t.layer) l room
         (λ _. same) (λ _ _. same) (λ _ _ _. same) (λ s n d. rw (ne_eqb (next l) 4 n) (served-held s n d)))
 
-  held_after : (a : Asked) → Holds m (memory_after m a) (after l a)
+  held_after : (a : Asked) → Holds (memory_after m a) (after l a)
   unfolding memory_after after
   held_after (arrival v b) = held-arrive v b
   held_after (turning room) = held-turn room
 
 -- Over every list of calls --------------------------------------------------------------------
 
-held_all : (m : List ℕ) (list : List Asked) → length m ≡ layer_size → Holds m (memory_after_all m list) (after_all (layer_from m) list)
+held_all : (m : List ℕ) (list : List Asked) → length m ≡ layer_size → layer_from (memory_after_all m list) ≡ after_all (layer_from m) list
 unfolding memory_after_all after_all
-held_all m [] size = same m size
+held_all m [] size = refl
 held_all m (a ∷ list) size =
     let x = held_after m size a in
-    let y = held_all (memory_after m a) list x.size in
-    record { is = y.is ∙ ap (λ (z : Layer). after_all z list) x.is; size = y.size; canonical = λ c. y.canonical (x.canonical c) }
-
--- the fresh layer's memory
-module _ (m : List ℕ) (size : length m ≡ layer_size) where
-  fresh-memory : (fresh_held m).memory ≡ layer_bytes fresh_layer
-  unfolding fresh_held
-  fresh-memory = rw (eq-eqb (length m) layer_size size)
-
-  fresh-size : length (fresh_held m).memory ≡ layer_size
-  unfolding fresh_layer
-  fresh-size = ap length fresh-memory ∙ layer-size fresh_layer refl fresh-whole (omega arith)
-
-  fresh-canonical : Canonical (fresh_held m).memory
-  fresh-canonical = rw fresh-memory layer-canonical
-
-  -- and what calls leave of it
-  left : (list : List Asked) → Holds (fresh_held m).memory (memory_after_all (fresh_held m).memory list) (after_all (layer_from (fresh_held m).memory) list)
-  left list = held_all (fresh_held m).memory list fresh-size
+    held_all (memory_after m a) list x.size ∙ ap (λ (y : Layer). after_all y list) x.is
 
 pub held : Held
 held = record {
-  first = λ m size. ap layer_from (fresh-memory m size) ∙ fresh-held;
-  next = λ m list size. (held_all m list size).is;
-}
-
-pub left-canonical : LeftCanonical
-left-canonical = record {
-  first = fresh-canonical;
-  next = λ m list size. (held_all m list size).canonical;
-  equal = λ a b calls others m n all-a all-b.
-      let x = left a m calls in
-      let y = left b n others in
-      equal-bytes _ _ all-a all-b x.size y.size (x.canonical (fresh-canonical a m)) (y.canonical (fresh-canonical b n));
+  first = λ m size. unfold fresh_held in (rw (eq-eqb (length m) layer_size size) fresh-held);
+  next = held_all;
 }

@@ -1,11 +1,9 @@
--- What a host sees of the calls on the layer in its memory.
+-- What a host sees of the calls upon the layer in its memory.
 use Rattle.std.specs.Prelude.{◌≡◌, List, [], ◌∷◌, ℕ, ◌+◌, ◌*◌, eqb, length, set}
 use Rattle.rules.specs.Base.{if◌then◌else◌}
 use Rattle.rules.specs.Records.{sheet}
 use Rattle.layer.specs.Layer.{Turned, Asked, arrival, turning, fresh_layer, arrive, turn, after_all}
 use Rattle.dispatch.specs.declared.TurnReturned.{TurnReturned}
-use Rattle.sets.specs.Promises.{AllBytes}
-use Rattle.lanes.specs.Canonical.{Canonical}
 use Rattle.lanes.specs.Memory.{last_at, layer_size, lane_part, layer_from, layer_bytes, with_part, joined_bytes, head_called, advanced_bytes}
 
 -- A fresh layer -------------------------------------------------------------------------------
@@ -40,7 +38,7 @@ pub record TurnReply : Type 0 where
 abbrev pub turn_reply_of : TurnReturned → (memory report : List ℕ) → TurnReply
 turn_reply_of r m l = record { returned = r; memory = m; report = l }
 
--- what a turn returns that serves no venue
+-- of a turn that serves no venue
 abbrev pub idle_returned : (number : ℕ) → TurnReturned
 idle_returned n = record { number = n; done = 0; written = 0; served = 4 }
 
@@ -72,7 +70,7 @@ told_of n m r = record { told = n; memory = m; report = r }
 unfoldable pub host_turn : TurnReply → ToldTurn
 host_turn t = told_of (t.returned.number + 256 * t.returned.served) t.memory t.report
 
--- The calls on a memory are those on the layer that it holds ------------------------------------
+-- The calls upon a memory are those upon the layer that it holds --------------------------------
 
 unfoldable pub memory_after : (memory : List ℕ) → Asked → List ℕ
 memory_after m (arrival v b) = (arrive_held m v b).memory
@@ -87,16 +85,3 @@ pub record Held : Type 0 where
   pub first : (memory : List ℕ) → length memory ≡ layer_size → layer_from (fresh_held memory).memory ≡ fresh_layer
   -- and after every list of calls a memory holds the layer after them
   pub next : (memory : List ℕ) (list : List Asked) → length memory ≡ layer_size → layer_from (memory_after_all memory list) ≡ after_all (layer_from memory) list
-
--- Of layers that calls left, equal states are equal bytes ----------------------------------------
-
-pub record LeftCanonical : Type 0 where
-  -- the first memory is canonical
-  pub first : (memory : List ℕ) → length memory ≡ layer_size → Canonical (fresh_held memory).memory
-  -- and after every list of calls a canonical memory still is
-  pub next : (memory : List ℕ) (list : List Asked) → length memory ≡ layer_size → Canonical memory → Canonical (memory_after_all memory list)
-  -- so two memories that calls left of fresh layers are the same bytes where they hold the same layer
-  pub equal : (a b : List ℕ) (calls others : List Asked) → length a ≡ layer_size → length b ≡ layer_size →
-      (let x = memory_after_all (fresh_held a).memory calls in
-      let y = memory_after_all (fresh_held b).memory others in
-      AllBytes x → AllBytes y → layer_from x ≡ layer_from y → x ≡ y)

@@ -1,4 +1,3 @@
--- What a host sees of the calls (Hosts), and what a call leaves of a lane (Served).
+-- What a host sees of the calls.
 pub mod Hosts
-pub mod Served
 pub mod Requirements

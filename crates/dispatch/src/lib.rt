@@ -1,16 +1,16 @@
-// Four venues behind one line: arrivals and turns on the layer in a host's memory (crate lanes).
+// Four venues behind one line: arrivals and turns upon the layer in lent memory (crate lanes).
 ghost use Rattle.std.specs.Prelude.{◌≡◌, [], length};
 ghost use Rattle.rules.specs.Records.{sheet};
-ghost use Rattle.engine.specs.Hosts.{on_bytes};
+ghost use Rattle.engine.specs.Runs.{call_of};
+ghost use Rattle.lanes.specs.Memory.{head_called};
 ghost use Rattle.dispatch.specs.Hosts.{reply_of, fresh_held, arrive_held, idle_returned, turn_reply_of, turn_held, told_of, host_turn};
-ghost use Rattle.dispatch.specs.Served.{head_leaves, lane_served};
-ghost use Rattle.dispatch.specs.Requirements.{HeadReady, WaitReady};
+ghost use Rattle.dispatch.specs.Requirements.{HeadReady};
 
-use engine::Ended;
+use rules::Returned;
 
 // A fresh layer -------------------------------------------------------------------------------
 
-// Writes a fresh layer into a host's memory. A memory of another length can hold no layer: 9.
+// The first layer of a host's memory. A memory of another length can hold none.
 #[unsafe(no_mangle)]
 pub extern "C" fn legging_layer_fresh(layer: &mut [u8]) -> u8
     ensures { reply_of result layer.new ≡ fresh_held layer.old }
@@ -31,7 +31,7 @@ pub extern "C" fn legging_layer_fresh(layer: &mut [u8]) -> u8
 
 // A message arrives ---------------------------------------------------------------------------
 
-// A message arrives for one of the four venues. The call writes the memory only if it takes the message (returns 0).
+// A message for one of the four venues. Only one that is taken up writes the memory.
 pub fn arrive(layer: &mut [u8], venue: u32, message: &[u8]) -> u8
     ensures { reply_of result layer.new ≡ arrive_held layer.old venue message.now }
 {
@@ -58,35 +58,20 @@ pub fn arrive(layer: &mut [u8], venue: u32, message: &[u8]) -> u8
 
 // A turn --------------------------------------------------------------------------------------
 
-// The one-message call with the message at the head of a lane's wait. The function copies the message first, so that the call can write the venue's bytes.
-// Only an accepted message writes them.
-fn call_head(lane: &mut [u8], report: &mut [u8]) -> Ended
-    requires { HeadReady lane.old }
-    ensures { on_bytes result lane.new report.new ≡ head_leaves lane.old (length report.old) }
+// The one-message call with the message at the head of a lane's wait.
+fn call_head(lane: &[u8], report: &mut [u8]) -> Returned
+    requires { HeadReady lane.now }
+    ensures { call_of result report.new ≡ head_called lane.now (length report.old) }
 {
-    let before = wire::u32_at(lane, lanes::DONE);
-    let length = wire::u8_at(lane, lanes::PLACES) as usize;
-    let from = lanes::PLACES + 1;
-    let to = from + length;
-    let mut message = [0u8; 32];
-    records::put(&mut message, 0, &lane[from..to]);
     let end = lanes::VENUE;
-    engine::message_on_bytes(&mut lane[..end], before, &message[..length], report)
+    let venue = venue_bytes::venue_from(&lane[..end]);
+    let before = wire::u32_at(lane, lanes::DONE);
+    let from = lanes::PLACES + 1;
+    let to = from + wire::u8_at(lane, lanes::PLACES) as usize;
+    engine::one_message(venue, before, &lane[from..to], report)
 }
 
-// The same, and a message that the call did leaves the wait.
-fn serve(lane: &mut [u8], report: &mut [u8]) -> Ended
-    requires { WaitReady lane.old }
-    ensures { on_bytes result lane.new report.new ≡ lane_served lane.old (length report.old) }
-{
-    let r = call_head(lane, report);
-    if r.done != 0 {
-        lanes::advance(lane);
-    }
-    r
-}
-
-// What a turn returns, without the layer and the report. `served` is 4 where the turn did no message.
+// What a turn returns beside the layer and the report; 4 is served where no message was done.
 #[derive(Drop)]
 pub struct TurnReturned {
     pub number: u8,
@@ -108,8 +93,8 @@ fn idle(number: u8, report: &mut [u8]) -> TurnReturned
     }
 }
 
-// The next venue that has a message waiting does the message at the head of its wait. The call with it checks this venue, and `layer_sound` the others.
-// The report holds the message's records, then zeros.
+// The next venue that has a message waiting does the message at the head of its wait; the call with it checks this venue itself.
+// The report holds its records, then zeros.
 pub fn turn(layer: &mut [u8], report: &mut [u8]) -> TurnReturned
     ensures { turn_reply_of result layer.new report.new ≡ turn_held layer.old (length report.old) }
 {
@@ -125,7 +110,7 @@ pub fn turn(layer: &mut [u8], report: &mut [u8]) -> TurnReturned
     }
     let at = lanes::LANE * v;
     let end = at + lanes::LANE;
-    let r = serve(&mut layer[at..end], report);
+    let r = call_head(&layer[at..end], report);
     if r.done == 0 {
         return TurnReturned {
             number: r.number,
@@ -134,6 +119,8 @@ pub fn turn(layer: &mut [u8], report: &mut [u8]) -> TurnReturned
             served: 4,
         };
     }
+    let after = r.venue;
+    lanes::advance(&mut layer[at..end], r.number, after);
     layer[lanes::LAST] = v as u8;
     TurnReturned {
         number: r.number,
@@ -145,7 +132,7 @@ pub fn turn(layer: &mut [u8], report: &mut [u8]) -> TurnReturned
 
 // For a host ------------------------------------------------------------------------------------
 
-// An arrival, as `arrive` does it.
+// An arrival.
 #[unsafe(no_mangle)]
 pub extern "C" fn legging_arrive(layer: &mut [u8], venue: u32, message: &[u8]) -> u8
     ensures { reply_of result layer.new ≡ arrive_held layer.old venue message.now }
@@ -153,7 +140,7 @@ pub extern "C" fn legging_arrive(layer: &mut [u8], venue: u32, message: &[u8]) -
     arrive(layer, venue, message)
 }
 
-// A turn: returns its number plus 256 times the venue served, 4 for no venue.
+// A turn: its number, and 256 times the venue served.
 #[unsafe(no_mangle)]
 pub extern "C" fn legging_turn(layer: &mut [u8], report: &mut [u8]) -> u32
     ensures { told_of result layer.new report.new ≡ host_turn (turn_held layer.old (length report.old)) }

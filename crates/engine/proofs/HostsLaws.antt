@@ -1,36 +1,35 @@
--- The laws of a host's first venue, and of one message and a list of messages on the venue in its memory.
-use mathlib.Core.Path.{◌≡◌, refl, sym, ap, ◌∙◌}
+-- The laws of a host's first venue, and of one message upon the venue in its memory.
+use mathlib.Core.Path.{◌≡◌, refl, subst, ap, ◌∙◌}
 use mathlib.Core.Bool.{Bool, true, false, ◌&&◌}
 use mathlib.Core.List.{List, ◌++◌}
-use Prim.Native.Nat.{ℕ, zero, suc, ◌-◌, ◌≤◌}
+use Prim.Native.Nat.{ℕ, suc, ◌-◌, ◌≤◌}
 use native.Mathlib.Omega.{arith}
 use native.Mathlib.Decide.{dec_lt}
 use lib.IntN.{ℤ, pos, negsuc}
 use lib.ListN.{length, get_or, take, replicate, get_or-eq_default}
-use lib.Dec.{eqb}
-use borrow.Author.Tests.{leb-true, eqb-true, eqb-false, eq-eqb, ne_eqb}
+use lib.Dec.{ltb, eqb}
+use borrow.Author.Tests.{leb-true, ltb-false, eqb-true, eqb-false, eq-eqb, ne_eqb}
 use Rattle.rules.specs.declared.Regular.{Regular}
 use Rattle.rules.specs.declared.Complex.{Complex}
 use Rattle.rules.specs.declared.Listed.{Listed}
 use Rattle.rules.specs.declared.Generations.{Generations}
 use Rattle.rules.specs.declared.Venue.{Venue}
 use Rattle.rules.specs.declared.Returned.{Returned}
-use Rattle.rules.specs.Base.{held, if◌then◌else◌}
+use Rattle.rules.specs.Base.{held}
 use Rattle.rules.specs.Words.{within, is_class, is_status, is_away, not_listed, no_generations, fresh_venue}
 use Rattle.rules.specs.Records.{OneByte, FourBytes, FourSigned, encode_all, sheet}
+use Rattle.rules.specs.Effects.{Effect}
 use Rattle.rules.specs.Generation.{generations_of}
 use Rattle.rules.specs.Places.{blank_regular, blank_complex}
-use Rattle.rules.specs.Refusals.{regular_in_range, two_leg_in_range, complex_in_range}
-use Rattle.rules.specs.Step.{answered, step}
-use Rattle.rules.specs.Sound.{shows_fully, listed_in_range, sound}
-use Rattle.rules.specs.Calls.{Outcome, Call, called, ends, after, is_taken, one_from, one, run_from, run_upon, run_upon_from}
-use Rattle.rules.proofs.CallsLaws.{one_from-by, run_from-by, run_upon_from-by}
-use Rattle.rules.proofs.Cases.{if-by}
+use Rattle.rules.specs.Refusals.{regular_in_range, two_leg_in_range, complex_in_range, refusal}
+use Rattle.rules.specs.Step.{StepOutcome, answered, step}
+use Rattle.rules.specs.Sound.{shows_fully, listed_in_range, sound, follows}
+use Rattle.rules.specs.Calls.{Call, called, exceeds, ends, after, one}
 use Rattle.rules.proofs.Filling.{reg, cx}
 use Rattle.rules.proofs.Integers.{plus, minus}
 use Rattle.rules.proofs.Showing.{Showing}
-use Rattle.rules.proofs.Tests.{and_l, and_r}
-use Rattle.demands.specs.Soundness.{Shaped, SoundVenue, SoundAt}
+use Rattle.rules.proofs.Tests.{and_l, and_r, or-false-l}
+use Rattle.demands.specs.Soundness.{Shaped, SoundVenue}
 use Rattle.demands.specs.Truth.{venue_after}
 use Rattle.demands.proofs.Calls.{stays-sound, fresh-sound}
 use Rattle.demands.proofs.SoundnessLaws.{sound-out}
@@ -38,14 +37,12 @@ use Rattle.demands.proofs.Truth.{one-message}
 use Rattle.places.specs.Layout.{upto}
 use Rattle.places.proofs.Tables.{upto-length, upto-at}
 use Rattle.venue_bytes.specs.Held.{generations_at, venue_size, venue_bytes, generations_from, row_at, venue_from, Declared}
-use Rattle.venue_bytes.proofs.BytesBack.{bytes_back}
 use Rattle.venue_writer.proofs.Back.{held_whole}
-use Rattle.engine.specs.Runs.{returned_with, call_of}
-use Rattle.engine.specs.declared.Ended.{Ended}
-use Rattle.engine.specs.Hosts.{first_venue, fresh_hosted, HeldFirst, hosted, leaves, OnBytes, on_bytes, leaves_bytes, one_hosted, HeldNext}
-use Rattle.engine.specs.Hosts.{run_leaves_bytes, Batched, messages_hosted, HeldAfter, HeldUnchanged}
+use Rattle.engine.specs.Runs.{call_of}
+use Rattle.engine.specs.Hosts.{first_venue, fresh_hosted, HeldFirst, hosted, leaves, one_hosted, HeldNext}
 use Rattle.soundness.proofs.ReadyFor.{editions-fit, generations-fit}
 use Rattle.rules.specs.Fields.{ListedFits}
+use Rattle.engine.proofs.OneCallLaws.{one-unready, one-ends, one-does}
 
 -- The first venue -----------------------------------------------------------------------------
 
@@ -65,11 +62,20 @@ module _ (memory : List ℕ) (n : ℕ) (l bs : List ℕ) where
   unfolding one_hosted sheet encode_all
   none-held z h e = ap (hosted 9 memory) e ∙ rw (ne_eqb (length memory) venue_size h)
 
-  -- the call on the bytes that it holds
-  pub bytes-held : length memory ≡ venue_size → (e : Ended) (v z : List ℕ) → on_bytes e v z ≡ leaves_bytes memory (one (venue_from memory) n (length l) bs) →
-      hosted e.number v z ≡ one_hosted memory n (length l) bs
-  unfolding one_hosted leaves_bytes
-  bytes-held size e v z call = ap (λ (x : OnBytes). hosted x.ended.number x.venue x.report) call ∙ rw (eq-eqb (length memory) venue_size size)
+  module _ (size : length memory ≡ venue_size) (v : Venue) (given : v ≡ venue_from memory) (r : Returned) (z : List ℕ) (call : call_of r z ≡ one v n (length l) bs) where
+    call-held : leaves memory (call_of r z) ≡ one_hosted memory n (length l) bs
+    unfolding one_hosted
+    call-held = ap (leaves memory) (call ∙ ap (λ (w : Venue). one w n (length l) bs) given) ∙ rw (eq-eqb (length memory) venue_size size)
+
+    -- the message was not accepted
+    pub left-held : (r.number ≡ 0 → ⊥) → hosted r.number memory z ≡ one_hosted memory n (length l) bs
+    unfolding leaves
+    left-held e = rw (ne_eqb r.number 0 e) at call-held
+
+    -- it was, and the memory is written anew
+    pub accepted-held : (m : List ℕ) → r.number ≡ 0 → m ≡ venue_bytes r.venue → hosted r.number m z ≡ one_hosted memory n (length l) bs
+    unfolding leaves
+    accepted-held m e p = ap (λ (x : List ℕ). hosted r.number x z) p ∙ (rw (eq-eqb r.number 0 e) at call-held)
 
 -- The next call -------------------------------------------------------------------------------
 
@@ -172,123 +178,61 @@ held-shaped memory = record {
   twenty = held-twenty memory;
 }
 
--- a venue that a call takes is sound
-taken-sound : (v : Venue) (n : ℕ) → Shaped v → is_taken v n ≡ true → SoundAt (suc n) v
-taken-sound v n shaped t = record { venue = record { shaped = shaped; is = and_l (sound v) _ t }; next = and_r (sound v) _ t }
+module _ (memory : List ℕ) (room : ℕ) where
+  -- what a call leaves in the memory is the venue that it returned
+  abbrev Next : Call → Type 0
+  Next c = venue_from (leaves memory c).venue ≡ c.returned.venue
 
--- what a one-message call leaves: with its message accepted a sound venue, and else the venue that it was given
-record OneLeft (v : Venue) (o : Outcome) : Type 0 where
-  accepted : o.number ≡ 0 → SoundVenue o.venue
-  other : (o.number ≡ 0 → ⊥) → o.venue ≡ v
+  next-ended : (number : ℕ) → eqb number 0 ≡ false → Next (called room (ends number (venue_from memory)))
+  unfolding leaves called ends
+  next-ended number other = rw other
 
-one_left : (v : Venue) (n room : ℕ) (bs : List ℕ) → Shaped v → OneLeft v (one_from v n room bs)
-unfolding ends after
-one_left v n room bs shaped =
-    one_from-by (OneLeft v) v n room bs (λ _. record { accepted = λ z. absurd (omega arith); other = λ _. refl })
-    (λ _ _. record { accepted = λ z. absurd (omega arith); other = λ _. refl })
-    (λ t d. record {
-      accepted = λ _. (stays-sound v (suc n) d.0 (taken-sound v n shaped t) bs).venue;
-      other = unfold step answered venue_after in (λ some. (one-message.alone v (suc n) bs some).venue);
-    })
+  -- a message done: accepted, or refused
+  module _ (e : Effect) (refused : ℕ) where
+    abbrev done : Call
+    done = called room (after e (ends refused e.venue))
+
+    next-accepted : eqb refused 0 ≡ true → venue_from (venue_bytes e.venue) ≡ e.venue → Next done
+    unfolding leaves called ends after
+    next-accepted zero p = rw (zero, p)
+
+    next-refused : eqb refused 0 ≡ false → e.venue ≡ venue_from memory → Next done
+    unfolding leaves called ends after
+    next-refused other p = rw (other, p)
 
 module _ (memory : List ℕ) (n room : ℕ) (bs : List ℕ) where
-  abbrev o : Outcome
-  o = one_from (venue_from memory) n room bs
+  abbrev v : Venue
+  v = venue_from memory
 
-  -- what it leaves in the memory is the venue that it returned
-  one-next : venue_from (leaves memory (one (venue_from memory) n room bs)).venue ≡ (one (venue_from memory) n room bs).returned.venue
-  unfolding leaves one called
-  one-next = go (eqb o.number 0) refl
-    where
-      left : OneLeft (venue_from memory) o
-      left = one_left (venue_from memory) n room bs (held-shaped memory)
+  abbrev a : StepOutcome
+  a = step v (suc n) bs
 
-      go : (t : Bool) → eqb o.number 0 ≡ t → venue_from (if t then venue_bytes o.venue else memory) ≡ o.venue
-      go true e = held_whole o.venue (declared o.venue (left.accepted (eqb-true o.number 0 e)))
-      go false e = sym (left.other (eqb-false o.number 0 e))
+  -- a refused message leaves the venue
+  refused-leaves : eqb a.refused 0 ≡ false → a.effect.venue ≡ v
+  unfolding step answered venue_after
+  refused-leaves other = (one-message.alone v (suc n) bs (eqb-false (refusal v bs) 0 other)).venue
+
+  -- a message done has a number
+  numbered : exceeds (suc n) room a.effect.reports ≡ false → suc n ≤ 4294967295
+  unfolding exceeds
+  numbered e = ltb-false 4294967295 (suc n) (or-false-l (ltb 4294967295 (suc n)) _ e)
+
+  module _ (fine : (sound v && follows (suc n) v) ≡ true) where
+    next-done : (t : Bool) → suc n ≤ 4294967295 → eqb a.refused 0 ≡ t → Next memory room (done memory room a.effect a.refused)
+    next-done true few e =
+        let w : Venue = a.effect.venue in
+        let s : SoundVenue w = (stays-sound v (suc n) (omega arith) (record { venue = record { shaped = held-shaped memory; is = and_l (sound v) _ fine }; next = and_r (sound v) _ fine }) bs).venue in
+        next-accepted memory room a.effect a.refused e (held_whole w (declared w s))
+    next-done false few e = next-refused memory room a.effect a.refused e (refused-leaves e)
+
+    next-ready : (t : Bool) → exceeds (suc n) room a.effect.reports ≡ t → Next memory room (one v n room bs)
+    next-ready true e = subst (Next memory room) (one-ends v n room bs fine e) (next-ended memory room 10 refl)
+    next-ready false e = subst (Next memory room) (one-does v n room bs fine e) (next-done (eqb a.refused 0) (numbered e) refl)
+
+  next : (t : Bool) → (sound v && follows (suc n) v) ≡ t → Next memory room (one v n room bs)
+  next true fine = next-ready fine (exceeds (suc n) room a.effect.reports) refl
+  next false e = subst (Next memory room) (one-unready v n room bs e) (next-ended memory room 9 refl)
 
 pub held_next : HeldNext
 unfolding one_hosted
-held_next memory n room bs size = rw (eq-eqb (length memory) venue_size size) (one-next memory n room bs)
-
--- A list of messages --------------------------------------------------------------------------
-
--- a run on a sound venue leaves a sound one
-pub run_sound : (fuel : ℕ) (v : Venue) (n room : ℕ) (bs : List ℕ) → SoundAt (suc n) v → SoundVenue (run_from fuel v n room bs).venue
-unfolding ends after
-run_sound zero v n room bs s = unfold run_from in s.venue
-run_sound (suc fuel) v n room bs s =
-    run_from-by (λ r. SoundVenue r.venue) v n room bs fuel (λ _. s.venue) (λ _ _. s.venue) (λ d _. (stays-sound v (suc n) d.0 s bs).venue)
-    (λ d _. run_sound fuel _ (suc n) _ _ (stays-sound v (suc n) d.0 s bs))
-
--- and one that does no message leaves the venue that it was given
-run-idle : (fuel : ℕ) (v : Venue) (n room : ℕ) (bs : List ℕ) → (run_from fuel v n room bs).done ≡ 0 → (run_from fuel v n room bs).venue ≡ v
-unfolding ends after
-run-idle zero v n room bs = unfold run_from in (λ _. refl)
-run-idle (suc fuel) v n room bs =
-    run_from-by (λ r. r.done ≡ 0 → r.venue ≡ v) v n room bs fuel (λ _ _. refl) (λ _ _ _. refl) (λ _ _ z. absurd (omega arith)) (λ _ _ z. absurd (omega arith))
-
-record RunLeft (v : Venue) (o : Outcome) : Type 0 where
-  idle : o.done ≡ 0 → o.venue ≡ v
-  other : (o.done ≡ 0 → ⊥) → SoundVenue o.venue
-
-run-left : (v : Venue) (n room : ℕ) (bs : List ℕ) → Shaped v → RunLeft v (run_upon_from v n room bs)
-unfolding ends
-run-left v n room bs shaped =
-    run_upon_from-by (RunLeft v) v n room bs (λ _. record { idle = λ _. refl; other = λ some. absurd (some refl) })
-    (λ t. record { idle = run-idle (length bs) v n room bs; other = λ _. run_sound (length bs) v n room bs (taken-sound v n shaped t) })
-
-module _ (memory : List ℕ) (n room : ℕ) (bs : List ℕ) where
-  abbrev run : Outcome
-  run = run_upon_from (venue_from memory) n room bs
-
-  -- what a run leaves in the memory is the venue that it returned
-  run-next : venue_from (run_leaves_bytes memory (run_upon (venue_from memory) n room bs)).venue ≡ (run_upon (venue_from memory) n room bs).returned.venue
-  unfolding run_leaves_bytes run_upon called
-  run-next = go (eqb run.done 0) refl
-    where
-      left : RunLeft (venue_from memory) run
-      left = run-left (venue_from memory) n room bs (held-shaped memory)
-
-      go : (t : Bool) → eqb run.done 0 ≡ t → venue_from (if t then memory else venue_bytes run.venue) ≡ run.venue
-      go true e = sym (left.idle (eqb-true run.done 0 e))
-      go false e = held_whole run.venue (declared run.venue (left.other (eqb-false run.done 0 e)))
-
-pub held_after : HeldAfter
-unfolding messages_hosted
-held_after memory n room bs size = rw (eq-eqb (length memory) venue_size size) (run-next memory n room bs)
-
-pub held-unchanged : HeldUnchanged
-unfolding messages_hosted run_leaves_bytes
-held-unchanged memory n room told bs all size same =
-    if-by (λ (h : Batched). h.venue ≡ memory) (eqb (length memory) venue_size && eqb told 4)
-    (λ _. if-by (λ (m : List ℕ). m ≡ memory) (eqb (run_upon (venue_from memory) n room bs).returned.done 0) (λ _. refl) (λ _. ap venue_bytes same ∙ bytes_back memory all size))
-    (λ _. refl)
-
--- By value ------------------------------------------------------------------------------------
-
--- a call on bytes, with the venue that they stand for after it
-read_back : (c : Call) (left : List ℕ) → venue_from left ≡ c.returned.venue → (e : Ended) (b z : List ℕ) (w : Venue) →
-    on_bytes e b z ≡ on_bytes (record { number = c.returned.number; done = c.returned.done; written = c.returned.written }) left c.report → w ≡ venue_from b →
-    call_of (returned_with e w) z ≡ c
-read_back c left same e b z w call f =
-    let k : Ended = record { number = c.returned.number; done = c.returned.done; written = c.returned.written } in
-    ap (λ (x : Venue). call_of (returned_with e x) z) f
-    ∙ ap (λ (x : OnBytes). call_of (returned_with x.ended (venue_from x.venue)) x.report) call
-    ∙ ap (λ (x : Venue). call_of (returned_with k x) c.report) same
-
--- the bytes of a venue, and what a call on them left
-module _ (v : Venue) (memory : List ℕ) (held : venue_from memory ≡ v) (n : ℕ) (l m : List ℕ) (e : Ended) (b z : List ℕ) (w : Venue) (f : w ≡ venue_from b) where
-  pub one-by-value : on_bytes e b z ≡ leaves_bytes memory (one (venue_from memory) n (length l) m) → call_of (returned_with e w) z ≡ one v n (length l) m
-  unfolding leaves_bytes leaves
-  one-by-value call =
-      read_back (one (venue_from memory) n (length l) m) (leaves memory (one (venue_from memory) n (length l) m)).venue
-      (one-next memory n (length l) m) e b z w call f
-      ∙ ap (λ (x : Venue). one x n (length l) m) held
-
-  pub run-by-value : on_bytes e b z ≡ run_leaves_bytes memory (run_upon (venue_from memory) n (length l) m) → call_of (returned_with e w) z ≡ run_upon v n (length l) m
-  unfolding run_leaves_bytes
-  run-by-value call =
-      read_back (run_upon (venue_from memory) n (length l) m) (run_leaves_bytes memory (run_upon (venue_from memory) n (length l) m)).venue
-      (run-next memory n (length l) m) e b z w call f
-      ∙ ap (λ (x : Venue). run_upon x n (length l) m) held
+held_next memory n room bs size = rw (eq-eqb (length memory) venue_size size) (next memory n room bs (sound (venue_from memory) && follows (suc n) (venue_from memory)) refl)

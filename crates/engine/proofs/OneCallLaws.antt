@@ -1,7 +1,7 @@
 -- The laws of a one-message call, by the ways that it ends.
 use mathlib.Core.Path.{◌≡◌, refl, sym, ap, ap₂, ◌∙◌}
 use mathlib.Core.Bool.{true, false, ◌&&◌}
-use mathlib.Core.List.{List, [], ◌++◌, append-nil}
+use mathlib.Core.List.{List, ◌++◌, append-nil}
 use Prim.Native.Nat.{ℕ, suc, ◌+◌, ◌-◌, ◌≤◌, ◌<◌}
 use native.Mathlib.Omega.{arith}
 use native.Mathlib.Numerals.{add-one}
@@ -22,8 +22,7 @@ use Rattle.places.proofs.Tables.{upto-length, used-length}
 use Rattle.demands.specs.Soundness.{Shaped, SoundVenue}
 use Rattle.answers.specs.declared.Stepped.{Stepped}
 use Rattle.answers.specs.Steps.{Steps}
-use Rattle.engine.specs.declared.Ended.{Ended}
-use Rattle.engine.specs.Runs.{returned_with, call_of}
+use Rattle.engine.specs.Runs.{call_of}
 
 -- numbers stand for a venue of the declared type
 shaped : (b : List ℕ) → Shaped (venue_of b)
@@ -43,11 +42,11 @@ shaped b =
 pub laid-sound : (v : Venue) (b : List ℕ) → sound v ≡ true → venue_of b ≡ v → SoundVenue (venue_of b)
 laid-sound v b fine stands = record { shaped = shaped b; is = ap sound stands ∙ fine }
 
--- a call that ended before its first message
-pub ended-before : (l z : List ℕ) (k : ℕ) (r : Ended) (v : Venue) → (r ≡ record { number = k; done = 0; written = 0 }) × (z ≡ sheet (length l) []) →
-    call_of (returned_with r v) z ≡ called (length l) (ends k v)
-unfolding called ends encode_all
-ended-before l z k r v e = ap₂ (λ (x : Ended) (y : List ℕ). call_of (returned_with x v) y) e.0 e.1
+-- the report zeroed from its start
+pub call_ends : (l z : List ℕ) (number : ℕ) (v : Venue) → z ≡ take 0 l ++ replicate (length l - 0) 0 →
+    call_of (record { number = number; done = 0; written = 0; venue = v }) z ≡ called (length l) (ends number v)
+unfolding called ends sheet encode_all
+call_ends l z number v e = ap (call_of (record { number = number; done = 0; written = 0; venue = v })) e
 
 module _ (v : Venue) (n room : ℕ) (m : List ℕ) where
   pub one-unready : (sound v && follows (suc n) v) ≡ false → called room (ends 9 v) ≡ one v n room m
@@ -67,7 +66,7 @@ module _ (v : Venue) (n room : ℕ) (m : List ℕ) where
     unfolding one one_from
     one-does e = rw (fine, e)
 
--- the message was done on b₀, which stands for v: r is what its step returned, b and o what it left
+-- the message was done upon b₀, which stands for v: r is what its step returned, b and o what it left
 module _ (v : Venue) (n : ℕ) (m b₀ b l o : List ℕ) (r : Stepped) (fine : (sound v && follows (suc n) v) ≡ true) (stands : venue_of b₀ ≡ v) (few : n < 4294967295)
     (steps : Steps (step (venue_of b₀) (n + 1) m) l r b o) where
   abbrev a : StepOutcome

@@ -22,16 +22,20 @@ use Rattle.engine.specs.Runs.{onto, goes_on, Turned, call_of}
 
 -- An outcome after messages and their records -------------------------------------------------
 
+onto-none : (j k : ℕ) (v : Venue) → j ≡ 0 → ends k v ≡ onto j [] (ends k v)
+unfolding onto ends
+onto-none j k v e = rw e
+
 onto-one : (j : ℕ) (e : Venue) (rs : List Report) (o : Outcome) → j ≡ 1 → after (record { venue = e; reports = rs }) o ≡ onto j rs o
 unfolding onto after
 onto-one j e rs o p =
     let z : suc o.done ≡ j + o.done = omega arith in
     ap (λ (i : ℕ). record { number = o.number; done = i; venue = o.venue; reports = rs ++ o.reports }) z
 
-onto-zero : (k : ℕ) (o : Outcome) → k ≡ 0 → o ≡ onto k [] o
+onto-zero : (o : Outcome) → o ≡ onto 0 [] o
 unfolding onto
-onto-zero k o e =
-    let z : o.done ≡ k + o.done = omega arith in
+onto-zero o =
+    let z : o.done ≡ 0 + o.done = omega arith in
     ap (λ (j : ℕ). record { number = o.number; done = j; venue = o.venue; reports = o.reports }) z
 
 onto-onto : (j k : ℕ) (a b : List Report) (o : Outcome) → onto j a (onto k b o) ≡ onto (j + k) (a ++ b) o
@@ -67,7 +71,7 @@ turn-ends before rest k done written l₀ b l z w front e =
       bytes = front ∙ sym (append-nil (take written l₀));
       within = w;
       counted = omega arith;
-      is = e ∙ onto-zero (done - done) (ends k (venue_of b)) (omega arith) ∙ ap (onto (done - done) []) (sym (goes-not k (venue_of b) rest z));
+      is = e ∙ onto-none (done - done) k (venue_of b) (omega arith) ∙ ap (onto (done - done) []) (sym (goes-not k (venue_of b) rest z));
     }
 
 -- a message was tried with what is left of the report from a position on: r is what was returned, and ys what that part then holds
@@ -133,16 +137,16 @@ pub record Sofar (whole : Outcome) (l₀ b l : List ℕ) (number done written : 
   pub bytes : take written l ≡ encode_all records
   pub is : whole ≡ onto done records (goes_on number (venue_of b) rest)
 
-pub sofar-start : (whole : Outcome) (l b : List ℕ) (done : ℕ) → length b ≡ size → done ≡ 0 → Sofar whole l b l 0 done 0 whole
+pub sofar-start : (whole : Outcome) (l b : List ℕ) → length b ≡ size → Sofar whole l b l 0 0 0 whole
 unfolding encode_all
-sofar-start whole l b done n z =
+sofar-start whole l b n =
     record {
       records = [];
       slice = n;
       len = refl;
       within = zero-le;
       bytes = refl;
-      is = onto-zero done whole z ∙ ap (onto done []) (sym (goes_on 0 (venue_of b) whole refl));
+      is = onto-zero whole ∙ ap (onto 0 []) (sym (goes_on 0 (venue_of b) whole refl));
     }
 
 module _ (whole : Outcome) (l₀ b l : List ℕ) (number done written : ℕ) where
@@ -152,13 +156,14 @@ module _ (whole : Outcome) (l₀ b l : List ℕ) (number done written : ℕ) whe
   sofar-as rest rest' e g =
       record { records = g.records; slice = g.slice; len = g.len; within = g.within; bytes = g.bytes; is = g.is ∙ ap (onto done g.records) e }
 
-  -- one turn more, from k messages on
+  -- one turn more
   pub sofar-turn : (rest : Outcome) → Sofar whole l₀ b l number done written rest → number ≡ 0 → (number' done' written' : ℕ) (b' l' : List ℕ) (rest' : Outcome) →
-      length b' ≡ length b → length l' ≡ length l → (k k' : ℕ) → Turned rest k written l number' k' written' b' l' rest' → done + (k' - k) ≡ done' →
-      Sofar whole l₀ b' l' number' done' written' rest'
-  sofar-turn rest g going number' done' written' b' l' rest' slice same k k' turn z =
+      length b' ≡ length b → length l' ≡ length l → Turned rest done written l number' done' written' b' l' rest' → Sofar whole l₀ b' l' number' done' written' rest'
+  sofar-turn rest g going number' done' written' b' l' rest' slice same turn =
       let n = g.len in
       let w = turn.within in
+      let c = turn.counted in
+      let z : done + (done' - done) ≡ done' = omega arith in
       record {
         records = g.records ++ turn.records;
         slice = slice ∙ g.slice;
@@ -167,8 +172,8 @@ module _ (whole : Outcome) (l₀ b l : List ℕ) (number done written : ℕ) whe
         bytes = turn.bytes ∙ ap (λ (x : List ℕ). x ++ encode_all turn.records) g.bytes ∙ sym (encode-append g.records turn.records);
         is =
             g.is ∙ ap (onto done g.records) (goes_on number (venue_of b) rest going ∙ turn.is)
-            ∙ onto-onto done (k' - k) g.records turn.records (goes_on number' (venue_of b') rest')
-            ∙ ap (λ (j : ℕ). onto j (g.records ++ turn.records) (goes_on number' (venue_of b') rest')) z;
+            ∙ onto-onto done (done' - done) g.records turn.records (goes_on number' (venue_of b') rest')
+            ∙ ap (λ (k : ℕ). onto k (g.records ++ turn.records) (goes_on number' (venue_of b') rest')) z;
       }
 
   -- The end: nothing is left to do

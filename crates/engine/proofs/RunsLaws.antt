@@ -14,14 +14,11 @@ use Rattle.rules.specs.Bytes.{length_field}
 use Rattle.rules.specs.Records.{Report, encode_all}
 use Rattle.rules.specs.Refusals.{torn}
 use Rattle.rules.specs.Step.{StepOutcome, answered, step}
-use Rattle.rules.specs.Sound.{sound, follows}
-use Rattle.rules.specs.Calls.{Outcome, called, exceeds, ends, after, is_taken, run_from, run_upon, run_upon_from, run}
+use Rattle.rules.specs.Calls.{Outcome, exceeds, ends, after, run_from, run}
 use Rattle.rules.proofs.CallsLaws.{no_number, no_room, not-exceeds, run-full, run-torn, run_on, run_none}
 use Rattle.rules.proofs.RefusalsLaws.{whole}
-use Rattle.rules.proofs.Tests.{and_in, and_l, and_r}
 use Rattle.demands.specs.Soundness.{SoundAt}
 use Rattle.demands.proofs.Calls.{stays-sound, fresh-sound}
-use Rattle.demands.proofs.Agree.{from-fresh}
 use Rattle.records.proofs.SeenLaws.{part-all}
 use Rattle.reader.specs.declared.Head.{Head}
 use Rattle.reader.specs.Head.{head_at, head_number, head_length}
@@ -30,9 +27,8 @@ use Rattle.places.specs.Layout.{size, venue_of, Dense, Loaded}
 use Rattle.answers.specs.declared.Stepped.{Stepped}
 use Rattle.messages.specs.Tries.{Tries}
 use Rattle.engine.specs.declared.RunProgress.{RunProgress}
-use Rattle.engine.specs.Runs.{goes_on, Advances, RunStart, returned_with, call_of}
+use Rattle.engine.specs.Runs.{goes_on, Advances, call_of}
 use Rattle.engine.proofs.Proceeding.{goes_on, goes-not, turn-ends, too_long, venue-kept, front_kept, length-is, venue-is, turn-does, Sofar}
-use Rattle.engine.proofs.OneCallLaws.{laid-sound}
 use Rattle.engine.proofs.Proceeding.{sofar-start, sofar-as, sofar-turn, Ended, sofar-ends, ended-call}
 
 -- A turn --------------------------------------------------------------------------------------
@@ -139,7 +135,7 @@ module _ (t : RunProgress) (m b₀ b l ys : List ℕ) (r : Stepped) (a : t.at < 
           sound = sound-still;
         }
 
-    -- what stood at the position decides which
+    -- what stood at the position tells which
     pub turn-done : (h : Head) → h ≡ head_at m t.at → (x n : ℕ) → x ≡ head_number h → n ≡ head_length h →
         Advances m t b₀ l (record { number = x; done = t.done + 1; at = t.at + n; written = t.written + r.written }) b back
     turn-done h e x n x-is n-is = go (torn bs) refl
@@ -150,136 +146,90 @@ module _ (t : RunProgress) (m b₀ b l ys : List ℕ) (r : Stepped) (a : t.at < 
 
 -- The loop ------------------------------------------------------------------------------------
 
--- a run on v with n messages done before it, of the messages m, and the report memory l₀
-module _ (v : Venue) (n : ℕ) (m l₀ : List ℕ) where
-  -- the whole run, and what is left of it at a turn
-  abbrev whole_run : Outcome
-  whole_run = run_from (length m) v n (length l₀) m
+-- the whole run, and what is left of it at a turn
+abbrev whole_run : (m l₀ : List ℕ) → Outcome
+whole_run m l₀ = run_from (length m) fresh_venue 0 (length l₀) m
 
-  abbrev left_run : (b : List ℕ) (t : RunProgress) → Outcome
-  left_run b t = run_from (length m - (t.done - n)) (venue_of b) t.done (length l₀ - t.written) (drop t.at m)
+abbrev left_run : (m l₀ b : List ℕ) (t : RunProgress) → Outcome
+left_run m l₀ b t = run_from (length m - t.done) (venue_of b) t.done (length l₀ - t.written) (drop t.at m)
 
-  pub record Running (b l : List ℕ) (t : RunProgress) : Type 0 where
-    pub sofar : Sofar whole_run l₀ b l t.number (t.done - n) t.written (left_run b t)
-    pub going : t.number ≡ 0
-    pub since : n ≤ t.done
-    pub count : t.done ≤ n + t.at
-    pub at_in : t.at ≤ length m
-    pub dense : Dense b
-    pub sound : SoundAt (suc t.done) (venue_of b)
+pub record Running (m l₀ b l : List ℕ) (t : RunProgress) : Type 0 where
+  pub sofar : Sofar (whole_run m l₀) l₀ b l t.number t.done t.written (left_run m l₀ b t)
+  pub going : t.number ≡ 0
+  pub count : t.done ≤ t.at
+  pub at_in : t.at ≤ length m
+  pub dense : Dense b
+  pub sound : SoundAt (suc t.done) (venue_of b)
 
-  pub record RunEnded (b l : List ℕ) (t : RunProgress) : Type 0 where
-    pub sofar : Ended whole_run l₀ b l t.number (t.done - n) t.written
-    pub since : n ≤ t.done
+abbrev pub RunEnded : (m l₀ b l : List ℕ) (t : RunProgress) → Type 0
+RunEnded m l₀ b l t = Ended (whole_run m l₀) l₀ b l t.number t.done t.written
 
-  module _ (b l : List ℕ) (t : RunProgress) (g : Running b l t) where
-    -- the messages are at an end
-    pub running-end : length m ≤ t.at → RunEnded b l t
-    running-end h =
+module _ (m l₀ b l : List ℕ) (t : RunProgress) (g : Running m l₀ b l t) where
+  -- the messages are at an end
+  pub running-end : length m ≤ t.at → RunEnded m l₀ b l t
+  running-end h =
+      sofar-ends (whole_run m l₀) l₀ b l t.number t.done t.written (left_run m l₀ b t)
+      (goes_on t.number (venue_of b) (left_run m l₀ b t) g.going
+      ∙ ap (run_from (length m - t.done) (venue_of b) t.done (length l₀ - t.written)) (drop_of_length-le m {i = t.at} h)
+      ∙ run_none (length m - t.done) (venue_of b) t.done (length l₀ - t.written)
+      ∙ ap (λ (k : ℕ). ends k (venue_of b)) (sym g.going))
+      g.sofar
+
+  module _ (r : RunProgress) (b' l' : List ℕ) (ahead : t.at < length m) (slice : length b' ≡ length b) (same : length l' ≡ length l) (turn : Advances m t b l r b' l') where
+    -- one turn more, with the fuel that is left
+    turned : (fuel : ℕ) → length m - t.done ≡ suc fuel →
+        Sofar (whole_run m l₀) l₀ b' l' r.number r.done r.written (run_from fuel (venue_of b') r.done (length l - r.written) (drop r.at m))
+    turned fuel f =
+        sofar-turn (whole_run m l₀) l₀ b l t.number t.done t.written _
+        (sofar-as (whole_run m l₀) l₀ b l t.number t.done t.written (left_run m l₀ b t) _
+        (ap (goes_on t.number (venue_of b)) (ap₂ (λ (x y : ℕ). run_from x (venue_of b) t.done (y - t.written) (drop t.at m)) f (sym g.sofar.len)))
+        g.sofar)
+        g.going r.number r.done r.written b' l' _ slice same (turn.turned fuel)
+
+    fuel-left : length m - t.done ≡ suc (length m - suc t.done)
+    fuel-left = let c = g.count in omega arith
+
+    pub running-again : r.number ≡ 0 → Running m l₀ b' l' r
+    running-again z =
+        let v = turn.moved z in
+        let p = v.0 in
+        let d = v.2 in
+        let c = g.count in
         record {
-          sofar = sofar-ends whole_run l₀ b l t.number (t.done - n) t.written (left_run b t)
-              (goes_on t.number (venue_of b) (left_run b t) g.going
-              ∙ ap (run_from (length m - (t.done - n)) (venue_of b) t.done (length l₀ - t.written)) (drop_of_length-le m {i = t.at} h)
-              ∙ run_none (length m - (t.done - n)) (venue_of b) t.done (length l₀ - t.written)
-              ∙ ap (λ (k : ℕ). ends k (venue_of b)) (sym g.going))
-              g.sofar;
-          since = g.since;
+          sofar = sofar-as (whole_run m l₀) l₀ b' l' r.number r.done r.written _ (left_run m l₀ b' r)
+              (ap (goes_on r.number (venue_of b'))
+              (ap₂ (λ (x y : ℕ). run_from (length m - x) (venue_of b') r.done (y - r.written) (drop r.at m)) (sym d) g.sofar.len))
+              (turned (length m - suc t.done) fuel-left);
+          going = z;
+          count = omega arith;
+          at_in = v.1;
+          dense = turn.dense;
+          sound = turn.sound;
         }
 
-    module _ (r : RunProgress) (b' l' : List ℕ) (ahead : t.at < length m) (slice : length b' ≡ length b) (same : length l' ≡ length l) (turn : Advances m t b l r b' l') where
-      -- one turn more, with the fuel that is left
-      turned : (fuel : ℕ) → length m - (t.done - n) ≡ suc fuel →
-          Sofar whole_run l₀ b' l' r.number (r.done - n) r.written (run_from fuel (venue_of b') r.done (length l - r.written) (drop r.at m))
-      turned fuel f =
-          let k = (turn.turned fuel).counted in
-          let j = g.since in
-          sofar-turn whole_run l₀ b l t.number (t.done - n) t.written _
-          (sofar-as whole_run l₀ b l t.number (t.done - n) t.written (left_run b t) _
-          (ap (goes_on t.number (venue_of b)) (ap₂ (λ (x y : ℕ). run_from x (venue_of b) t.done (y - t.written) (drop t.at m)) f (sym g.sofar.len)))
-          g.sofar)
-          g.going r.number (r.done - n) r.written b' l' _ slice same t.done r.done (turn.turned fuel) (omega arith)
+    pub running-stop : (r.number ≡ 0 → ⊥) → RunEnded m l₀ b' l' r
+    running-stop z =
+        sofar-ends (whole_run m l₀) l₀ b' l' r.number r.done r.written _ (goes-not r.number (venue_of b') _ z) (turned (length m - suc t.done) fuel-left)
 
-      fuel-left : length m - (t.done - n) ≡ suc (length m - suc (t.done - n))
-      fuel-left = let c = g.count in let s = g.since in omega arith
-
-      pub running-again : r.number ≡ 0 → Running b' l' r
-      running-again z =
-          let v = turn.moved z in
-          let p = v.0 in
-          let d = v.2 in
-          let c = g.count in
-          let s = g.since in
-          let j : suc (t.done - n) ≡ r.done - n = omega arith in
-          record {
-            sofar = sofar-as whole_run l₀ b' l' r.number (r.done - n) r.written _ (left_run b' r)
-                (ap (goes_on r.number (venue_of b'))
-                (ap₂ (λ (x y : ℕ). run_from (length m - x) (venue_of b') r.done (y - r.written) (drop r.at m)) j g.sofar.len))
-                (turned (length m - suc (t.done - n)) fuel-left);
-            going = z;
-            since = omega arith;
-            count = omega arith;
-            at_in = v.1;
-            dense = turn.dense;
-            sound = turn.sound;
-          }
-
-      pub running-stop : (r.number ≡ 0 → ⊥) → RunEnded b' l' r
-      running-stop z =
-          let k = (turn.turned 0).counted in
-          let s = g.since in
-          record {
-            sofar = sofar-ends whole_run l₀ b' l' r.number (r.done - n) r.written _ (goes-not r.number (venue_of b') _ z) (turned (length m - suc (t.done - n)) fuel-left);
-            since = omega arith;
-          }
-
--- a run begins with the numbers of its venue
-pub running-start : (n : ℕ) (m b l : List ℕ) → RunStart b n → Running (venue_of b) n m l b l (record { number = 0; done = n; at = 0; written = 0 })
-running-start n m b l s =
-    let p : length m ≡ length m - (n - n) = omega arith in
+-- a run begins with the numbers of a fresh venue
+pub running-start : (m b l : List ℕ) → length b ≡ size → Loaded fresh_venue b → Running m l b l (record { number = 0; done = 0; at = 0; written = 0 })
+running-start m b l n f =
+    let p : length m ≡ length m - 0 = omega arith in
     let q : length l ≡ length l - 0 = omega arith in
     record {
-      sofar = sofar-as (whole_run (venue_of b) n m l) l b l 0 (n - n) 0 (whole_run (venue_of b) n m l) _
-          (ap (goes_on 0 (venue_of b)) (ap₂ (λ (x y : ℕ). run_from x (venue_of b) n y m) p q))
-          (sofar-start (whole_run (venue_of b) n m l) l b (n - n) s.slice (omega arith));
+      sofar = sofar-as (whole_run m l) l b l 0 0 0 (whole_run m l) _
+          (ap (goes_on 0 (venue_of b))
+          (ap₂ (λ (x y : ℕ). run_from x fresh_venue 0 y m) p q ∙ ap (λ (v : Venue). run_from (length m - 0) v 0 (length l - 0) m) (sym f.venue)))
+          (sofar-start (whole_run m l) l b n);
       going = refl;
-      since = omega arith;
-      count = omega arith;
+      count = zero-le;
       at_in = zero-le;
-      dense = s.dense;
-      sound = s.sound;
+      dense = f.dense;
+      sound = subst (SoundAt 1) (sym f.venue) fresh-sound;
     }
 
--- The whole run -------------------------------------------------------------------------------
-
--- one that is not taken, and one that is
-module _ (v : Venue) (n room : ℕ) (m : List ℕ) where
-  pub upon-not : is_taken v n ≡ false → called room (ends 9 v) ≡ run_upon v n room m
-  unfolding run_upon run_upon_from
-  upon-not e = rw e
-
-  pub upon-taken : is_taken v n ≡ true → called room (run_from (length m) v n room m) ≡ run_upon v n room m
-  unfolding run_upon run_upon_from
-  upon-taken e = rw e
-
--- the rest of the report zeroed
-pub ran : (n : ℕ) (m l₀ b₀ b l z : List ℕ) (t : RunProgress) → RunStart b₀ n → RunEnded (venue_of b₀) n m l₀ b l t → z ≡ take t.written l ++ replicate (length l - t.written) 0 →
-    call_of (returned_with (record { number = t.number; done = t.done - n; written = t.written }) (venue_of b)) z ≡ run_upon (venue_of b₀) n (length l₀) m
-ran n m l₀ b₀ b l z t s d e =
-    ended-call (whole_run (venue_of b₀) n m l₀) l₀ b l t.number (t.done - n) t.written z (venue_of b) d.sofar e refl
-    ∙ upon-taken (venue_of b₀) n (length l₀) m (and_in _ _ s.sound.venue.is s.sound.next)
-
--- a run begins where its venue is taken
-pub taken_start : (v : Venue) (n : ℕ) (b : List ℕ) → length b ≡ size → is_taken v n ≡ true → Loaded v b → RunStart b n
-taken_start v n b whole t l =
-    record {
-      slice = whole;
-      dense = l.dense;
-      sound = record { venue = laid-sound v b (and_l (sound v) _ t) l.venue; next = ap (follows (suc n)) l.venue ∙ and_r (sound v) _ t };
-    }
-
--- a run on the numbers of the fresh venue is a run from fresh
-pub ready-fresh : (b : List ℕ) → length b ≡ size → Loaded fresh_venue b → RunStart b 0
-ready-fresh b n f = record { slice = n; dense = f.dense; sound = subst (SoundAt 1) (sym f.venue) fresh-sound }
-
-pub ran-fresh : (b : List ℕ) (room : ℕ) (m : List ℕ) → venue_of b ≡ fresh_venue → run_upon (venue_of b) 0 room m ≡ run room m
-ran-fresh b room m f = ap (λ (v : Venue). run_upon v 0 room m) f ∙ sym (from-fresh room m)
+-- the rest of the report zeroed, and the venue read
+pub ran : (m l₀ b l z : List ℕ) (t : RunProgress) (v : Venue) → RunEnded m l₀ b l t → z ≡ take t.written l ++ replicate (length l - t.written) 0 → v ≡ venue_of b →
+    call_of (record { number = t.number; done = t.done; written = t.written; venue = v }) z ≡ run (length l₀) m
+unfolding run
+ran m l₀ b l z t v d e u = ended-call (whole_run m l₀) l₀ b l t.number t.done t.written z v d e u

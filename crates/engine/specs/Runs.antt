@@ -1,4 +1,4 @@
--- A call that goes on in turns: where it stands, and what a turn of a run and the whole call leave.
+-- Where a call stands that goes on in turns, and what a turn of a run and the call leave.
 use Rattle.std.specs.Prelude.{◌≡◌, List, ◌++◌, ℕ, suc, ◌+◌, ◌-◌, ◌≤◌, ◌<◌, eqb, length, take, drop}
 use Rattle.rules.specs.declared.Venue.{Venue}
 use Rattle.rules.specs.Base.{if◌then◌else◌}
@@ -10,13 +10,12 @@ use Rattle.places.specs.Layout.{size, venue_of, Dense}
 use Rattle.reader.specs.declared.Head.{Head}
 use Rattle.reader.specs.Head.{head_at}
 use Rattle.engine.specs.declared.RunProgress.{RunProgress}
-use Rattle.engine.specs.declared.Ended.{Ended}
 
 -- an outcome after k messages and their records
 unfoldable pub onto : (k : ℕ) → List Report → Outcome → Outcome
 onto k rs o = record { number = o.number; done = k + o.done; venue = o.venue; reports = rs ++ o.reports }
 
--- how a call goes on after a turn with this number: 0, as the rest of it does; else not at all
+-- how a call goes on that has come to a number: as the rest of it does, or not at all
 unfoldable pub goes_on : (number : ℕ) → Venue → (rest : Outcome) → Outcome
 goes_on k v rest = if eqb k 0 then rest else ends k v
 
@@ -29,7 +28,7 @@ pub record Turned (before : Outcome) (done written : ℕ) (l₀ : List ℕ) (num
   pub counted : done ≤ done'
   pub is : before ≡ onto (done' - done) records (goes_on number (venue_of b) rest)
 
--- what a turn of a run requires: a sound venue, a message or torn bytes at the position, and room
+-- what a turn of a run asks: a sound venue, a message or what is torn at the position, and room
 pub record RunReady (t : RunProgress) (head : Head) (b m l : List ℕ) : Type 0 where
   pub slice : length b ≡ size
   pub dense : Dense b
@@ -46,16 +45,6 @@ pub record Advances (m : List ℕ) (t : RunProgress) (b₀ l₀ : List ℕ) (r :
   pub moved : r.number ≡ 0 → (t.at < r.at) × (r.at ≤ length m) × (r.done ≡ suc t.done)
   pub dense : Dense b
   pub sound : SoundAt (suc r.done) (venue_of b)
-
--- what a run requires that begins with these numbers after n messages: a sound venue with every kept number below n + 1
-pub record RunStart (b : List ℕ) (n : ℕ) : Type 0 where
-  pub slice : length b ≡ size
-  pub dense : Dense b
-  pub sound : SoundAt (suc n) (venue_of b)
-
--- what a call returned that left this venue
-abbrev pub returned_with : Ended → Venue → Returned
-returned_with e v = record { number = e.number; done = e.done; written = e.written; venue = v }
 
 -- what a call returned and the report memory that it left
 abbrev pub call_of : Returned → List ℕ → Call

@@ -291,7 +291,7 @@ module _ (n : ℕ) (bs cs : List ℕ) (m s : List Part) (g : Ahead n bs m) (h : 
       let z = eqb-false (length bs) 0 e in
       ap (λ (t : Bool). t || later (suc n) s) (g.same-later (suc n) (omega arith) ∙ later-here n bs g.parts g.held (omega arith) a)
 
-  -- it is what the front of both lines says
+  -- it is what the front of both lines tells
   pub next_up : 0 < length bs + length cs → next (suc n) m s ≡ up_next (suc n) bs cs
   unfolding next up_next stop_of part_of
   next_up some =

@@ -123,7 +123,7 @@ part-head l at last h = ap (λ (x : List ℕ). head_length (head_of x)) (sym (dr
         let b = w.1 in
         ap head_length (head-message ts (omega arith) e) ∙ part-fine last (drop at l) (fine-in last (drop at l) h e)
 
--- its answer says which
+-- its answer tells which
 pub part-zero : (last : ℕ) (bs : List ℕ) (n : ℕ) → n ≡ part_length last bs → n ≡ 0 → faulty last bs ≡ true
 part-zero last bs n e z = go (faulty last bs) refl
   where

@@ -10,11 +10,9 @@ use Rattle.rules.specs.Calls.{Call, run}
 
 -- "each message after a u32 sequence number": in front of what is left of a line the number (0 where its four bytes are not there), the message, and what
 -- stands behind both
--- rule: (k)1
 unfoldable pub number_of : List ℕ → ℕ
 number_of bs = if ltb (length bs) 4 then 0 else u32_at bs 0
 
--- rule: (k)1
 unfoldable pub message_in : List ℕ → List ℕ
 message_in bs = take (length_field (drop 4 bs)) (drop 4 bs)
 
@@ -23,7 +21,6 @@ behind bs = drop (4 + length_field (drop 4 bs)) bs
 
 -- 21, of what stands in front, `last` being the number before it and at first 0: "a line is torn, doesn't rise or has a length below 4 or number 0".
 -- Where the number's four bytes are not there no message follows, so that is torn too. A number that is left out is no fault.
--- rule: (k)5
 unfoldable pub faulty : (last : ℕ) → List ℕ → Bool
 faulty last bs = leb (number_of bs) last || torn (drop 4 bs)
 
@@ -50,7 +47,6 @@ parts_from (suc fuel) bs = elim (eqb (length bs) 0) [
   | false ↦ record { number = number_of bs; message = message_in bs } ∷ parts_from fuel (behind bs)
 ]
 
--- rule: (k)1
 unfoldable pub parts_of : List ℕ → List Part
 parts_of line = parts_from (length line) line
 
@@ -66,13 +62,11 @@ under n [] = absent
 under n (p ∷ ps) = if eqb p.number n then stands p.message else under n ps
 
 -- "a later one stands on" the line
--- rule: (k)5
 unfoldable pub later : (number : ℕ) → List Part → Bool
 later n [] = false
 later n (p ∷ ps) = ltb n p.number || later n ps
 
 -- the bytes of two messages do not differ
--- rule: (k)5
 unfoldable pub same : List ℕ → List ℕ → Bool
 same [] [] = true
 same [] (y ∷ ys) = false
@@ -86,14 +80,12 @@ pub data Next : Type 0 where
 
 -- "The next number's message is handed to the engine as a part of whichever line's memory has it, main first." "19, both lines have the number but their
 -- bytes differ; 20, neither has it though a later one stands on either line".
--- rule: (k)2
 unfoldable pub next_by : (main spare : Under) → (ahead : Bool) → Next
 next_by (stands a) (stands b) ahead = if same a b then message a else stop 19
 next_by (stands a) absent ahead = message a
 next_by absent (stands b) ahead = message b
 next_by absent absent ahead = if ahead then stop 20 else stop 0
 
--- rule: (k)2
 unfoldable pub next : (number : ℕ) → (main spare : List Part) → Next
 next n m s = next_by (under n m) (under n s) (later n m || later n s)
 
@@ -117,7 +109,6 @@ handed_from zero n m s = stopped 0
 handed_from (suc fuel) n m s = elim (next (suc n) m s) [ message bs ↦ first bs (handed_from fuel (suc n) m s) | stop k ↦ stopped k ]
 
 -- "21 first, from both whole lines, with nothing handed out; then 19 or 20".
--- rule: (k)4
 unfoldable pub handed : (main spare : List ℕ) → Handed
 handed main spare =
     if faultless main && faultless spare then handed_from (length main + length spare) 0 (parts_of main) (parts_of spare) else stopped 21
@@ -128,7 +119,6 @@ joined [] = []
 joined (m ∷ ms) = m ++ joined ms
 
 -- what a run returns, with k as its number unless the run has ended before its list did
--- rule: (k)4
 unfoldable pub numbered : (number : ℕ) → Call → Call
 numbered k c = record {
   returned = record {
@@ -142,6 +132,5 @@ numbered k c = record {
 
 -- "The call returns what a run of the list handed out returns, but 19 to 21 as its number where one stopped it". A 10 ends the run before the number that
 -- would stop it comes up, and stays; and where that number comes up it is not in the list, so that it meets no 10.
--- rule: (k)4
 unfoldable pub feed : (room : ℕ) → (main spare : List ℕ) → Call
 feed room main spare = let h = handed main spare in numbered h.number (run room (joined h.messages))

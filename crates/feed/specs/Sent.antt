@@ -40,13 +40,11 @@ abbrev pub messages : List Sent → List (List ℕ)
 messages = map (λ x. x.message)
 
 -- exactly that list is handed out; its numbers are u32s
--- rule: (k)3
 abbrev pub ListHanded : Type 0
 ListHanded = (sent : List Sent) → length sent ≤ 4294967295 → AllWhole sent → NoneLost sent →
     handed (main_line sent) (spare_line sent) ≡ record { messages = messages sent; number = 0 }
 
 -- so the call returns what a run of the list returns, which ends at a 10
--- rule: (k)3
 abbrev pub ListRun : Type 0
 ListRun = (room : ℕ) (sent : List Sent) → length sent ≤ 4294967295 → AllWhole sent → NoneLost sent →
     feed room (main_line sent) (spare_line sent) ≡ run room (joined (messages sent))

@@ -13,6 +13,5 @@ NoneLeft = (main spare : List ℕ) → (handed main spare).number ≡ 0 → (k :
     (under k (parts_of main) ≡ absent) × (under k (parts_of spare) ≡ absent)
 
 -- "what a run of the list handed out returns, but 19 to 21": the list has whole messages only, as a torn line is a 21, so a run of it is never ended by 1
--- rule: (k)4
 abbrev pub NeverTorn : Type 0
 NeverTorn = (room : ℕ) (main spare : List ℕ) → (feed room main spare).returned.number ≢ 1

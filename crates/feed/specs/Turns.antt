@@ -6,7 +6,7 @@ use Rattle.rules.specs.Step.{step}
 use Rattle.rules.specs.Calls.{Outcome, exceeds, ends, after}
 use Rattle.feed.specs.Feed.{Part, next, message, stop}
 
--- one message handed out on v, after n messages, with this room left, and then how the rest goes
+-- one message handed out upon v, after n messages, with this room left, and then how the rest goes
 unfoldable pub hands : Venue → (n room : ℕ) → List ℕ → (rest : Venue → ℕ → Outcome) → Outcome
 hands v n room bs rest =
     let a = step v (suc n) bs in

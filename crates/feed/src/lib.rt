@@ -1,12 +1,12 @@
-// Two lines of one feed: the test of a line for 21, what stops the next number, and its message as a part of the line that has it. The functions only read the
-// lines and copy no message. The test reads each line once, the handing out reads it once, and a message that both lines have is compared once.
+// Two lines of one feed: 21's test of a line, what comes of the next number, and its message as a part of the line that has it. Both lines are only read,
+// and no message is copied. Each line is passed once by the test and once by the handing out, and a message that both have is compared once.
 ghost use Rattle.std.specs.Prelude.{◌≡◌, ◌&&◌, leb, ℕ, suc, ◌+◌, ◌≤◌, ◌<◌, length, drop};
 ghost use Rattle.rules.specs.Bytes.{u16_at};
 ghost use Rattle.feed.specs.Feed.{number_of, message_in, faultless, same};
 ghost use Rattle.feed.specs.Cursors.{part_length, stop_of, part_of, advance_of};
 ghost use Rattle.feed.specs.Requirements.{LineReady, LinesReady, LinesLeft};
 
-// The sequence number at a position; 0 where fewer than four bytes are left.
+// The number at a position; 0 where its four bytes are not there.
 fn number_at(line: &[u8], at: usize) -> u32
     ensures { result ≡ number_of (drop at line.now) }
 {
@@ -19,7 +19,7 @@ fn number_at(line: &[u8], at: usize) -> u32
     wire::u32_at(line, at)
 }
 
-// The length of the message after the number at a position; 0 where the message is torn or the number is not above `last`.
+// The length of the message behind the number at a position; 0 where it is torn or the number is not above `last`.
 fn part_length(line: &[u8], at: usize, last: u32) -> u16
     ensures { result ≡ part_length last (drop at line.now) }
 {
@@ -31,7 +31,7 @@ fn part_length(line: &[u8], at: usize, last: u32) -> u16
     reader::head_length(head)
 }
 
-// A whole line does not get 21: its numbers rise, and no message is torn.
+// 21's test of a whole line.
 pub fn is_faultless(line: &[u8]) -> bool
     ensures { result ≡ faultless line.now }
 {
@@ -65,7 +65,7 @@ fn same_bytes(a: &[u8], b: &[u8]) -> bool
     true
 }
 
-// The message after the number at a position.
+// The message behind the number at a position.
 fn message_at<'a>(line: &'a [u8], at: usize) -> &'a [u8]
     requires { (at + 6 ≤ length line.now) × (at + 4 + u16_at line.now (at + 4) ≤ length line.now) }
     ensures { result.now ≡ message_in (drop at line.now) }
@@ -96,14 +96,14 @@ pub fn at_ends(main: &[u8], at: usize, spare: &[u8], other: usize) -> bool
     false
 }
 
-// The next number, and what stops it: 19, 20, or 0 where the call hands out its message.
+// The number that comes up, and what stops it: 19, 20, or 0 where its message is handed out.
 #[derive(Drop)]
 pub struct Up {
     pub number: u32,
     pub stopped: u8,
 }
 
-// The number after `done` and what stops it, with the lines at these positions and not both at their ends.
+// What comes up after `done`, with the lines at these positions and not both at their ends.
 pub fn up_next(main: &[u8], at: usize, spare: &[u8], other: usize, done: u32) -> Up
     requires { LinesLeft main.now spare.now at other done }
     ensures { (result.number ≡ suc done) × (result.stopped ≡ stop_of (suc done) (drop at main.now) (drop other spare.now)) × (suc done < 4294967296) }
@@ -132,7 +132,7 @@ pub fn up_next(main: &[u8], at: usize, spare: &[u8], other: usize, done: u32) ->
     }
 }
 
-// The message of the next number, as a part of the line that has it; of the main line where both have it.
+// The message of the number that comes up, as a part of whichever line's memory has it, main first.
 pub fn next_part<'a>(
     main: &'a [u8],
     at: usize,
@@ -149,7 +149,7 @@ pub fn next_part<'a>(
     message_at(spare, other)
 }
 
-// The position on a line after a number's message is handed out: further if the line has that number.
+// The position on a line once a number's message is handed out.
 pub fn moved(line: &[u8], at: usize, number: u32) -> usize
     requires { LineReady line.now at number }
     ensures { result ≡ at + advance_of number (drop at line.now) }

@@ -13,28 +13,23 @@ use Rattle.rules.specs.declared.Venue.{Venue}
 use Rattle.rules.specs.Words.{fresh_venue}
 use Rattle.rules.specs.Records.{Report, encode_all}
 use Rattle.rules.specs.Step.{StepOutcome, step}
-use Rattle.rules.specs.declared.Returned.{Returned}
-use Rattle.rules.specs.Calls.{Outcome, Call, called, ends, after, run}
+use Rattle.rules.specs.Calls.{Outcome, called, ends, after}
 use Rattle.rules.proofs.CallsLaws.{no_room, not-exceeds}
 use Rattle.rules.proofs.Tests.{and_l, and_r, and-false}
-use Rattle.demands.specs.Soundness.{SoundVenue, SoundAt}
+use Rattle.demands.specs.Soundness.{SoundAt}
 use Rattle.demands.proofs.Calls.{stays-sound, fresh-sound}
-use Rattle.places.specs.Layout.{venue_of, Dense}
-use Rattle.venue_bytes.specs.Held.{venue_bytes, venue_from}
-use Rattle.venue_writer.proofs.Back.{held_whole}
+use Rattle.places.specs.Layout.{size, venue_of, Dense, Loaded}
 use Rattle.answers.specs.declared.Stepped.{Stepped}
 use Rattle.messages.specs.Tries.{Tries}
-use Rattle.feed.specs.Feed.{Part, parts_of, faultless, next, message, stop, handed, joined, numbered, feed}
+use Rattle.feed.specs.Feed.{Part, parts_of, faultless, next, message, stop, feed}
 use Rattle.feed.specs.Requirements.{LineReady, LinesReady}
 use Rattle.feed.specs.Cursors.{ready, stop_of, part_of, up_next, advance_of}
 use Rattle.feed.specs.Turns.{hands, fed_from}
 use Rattle.feed.proofs.FeedRuns.{hands-full, hands_more, fed-on, fed-stop, feed-is, feed-not}
 use Rattle.feed.proofs.Ahead.{Ahead, ahead-start, ahead-moved, ahead-ready, advance-within, some-move, next_up, next-end, next-whole, up-message, up-stop}
 use Rattle.feed_run.specs.declared.FeedProgress.{FeedProgress}
-use Rattle.engine.specs.Runs.{goes_on, returned_with, call_of}
+use Rattle.engine.specs.Runs.{goes_on, call_of}
 use Rattle.feed_run.specs.Feeds.{stops_at, Feeds}
-use Rattle.feed_run.specs.Requirements.{LinesStart}
-use Rattle.engine.proofs.HostsLaws.{declared, run_sound}
 use Rattle.engine.proofs.Proceeding.{goes_on, goes-not, turn-ends, too_long, venue-kept, front_kept, length-is, venue-is, turn-does, Sofar}
 use Rattle.engine.proofs.Proceeding.{sofar-start, sofar-as, sofar-turn, Ended, sofar-ends, ended-call}
 
@@ -50,7 +45,7 @@ module _ (room : ℕ) (main spare : List ℕ) (v : Venue) (fresh : v ≡ fresh_v
   pub spare-faulty : faultless spare ≡ false → called room (ends 21 v) ≡ feed room main spare
   spare-faulty e = not-fed (ap (λ (t : Bool). faultless main && t) e ∙ and-false (faultless main))
 
--- What the parts of a turn require ------------------------------------------------------------
+-- What the parts of a turn ask ----------------------------------------------------------------
 
 pub asked-one : (n d i : ℕ) (l : List ℕ) → n ≡ suc d → ready d (drop i l) ≡ true → LineReady l i n
 asked-one n d i l e r = let z : d ≡ n - 1 = omega arith in record { numbered = omega arith; stands = subst (λ (k : ℕ). ready k (drop i l) ≡ true) z r }
@@ -181,10 +176,9 @@ fed-none zero v n room m s e = unfold fed_from in refl
 fed-none (suc fuel) v n room m s e = fed-stop fuel v n room m s 0 e
 
 -- it begins with the numbers of a fresh venue
-pub feeding-start : (main spare b l : List ℕ) → LinesStart b main spare → Feeding main spare l b l (record { number = 0; done = 0; main = 0; spare = 0; written = 0 })
-feeding-start main spare b l s =
-    let n = s.fresh in
-    let f = n.loaded in
+pub feeding-start : (main spare b l : List ℕ) → length b ≡ size → Loaded fresh_venue b → faultless main ≡ true → faultless spare ≡ true →
+    Feeding main spare l b l (record { number = 0; done = 0; main = 0; spare = 0; written = 0 })
+feeding-start main spare b l n f a c =
     let p : length main + length spare ≡ length main + length spare - 0 = omega arith in
     let q : length l ≡ length l - 0 = omega arith in
     record {
@@ -192,10 +186,10 @@ feeding-start main spare b l s =
           (ap (goes_on 0 (venue_of b))
           (ap₂ (λ (x y : ℕ). fed_from x fresh_venue 0 y (parts_of main) (parts_of spare)) p q
           ∙ ap (λ (v : Venue). fed_from (length main + length spare - 0) v 0 (length l - 0) (parts_of main) (parts_of spare)) (sym f.venue)))
-          (sofar-start (whole_feed main spare l) l b 0 n.whole refl);
+          (sofar-start (whole_feed main spare l) l b n);
       going = refl;
-      on-main = ahead-start main s.main;
-      on-spare = ahead-start spare s.spare;
+      on-main = ahead-start main a;
+      on-spare = ahead-start spare c;
       main-in = zero-le;
       spare-in = zero-le;
       count = zero-le;
@@ -246,15 +240,14 @@ module _ (main spare l₀ b l : List ℕ) (t : FeedProgress) (g : Feeding main s
     turned : (fuel : ℕ) → length main + length spare - t.done ≡ suc fuel →
         Sofar (whole_feed main spare l₀) l₀ b' l' r.number r.done r.written (fed_from fuel (venue_of b') r.done (length l - r.written) (parts_of main) (parts_of spare))
     turned fuel f =
-        let up = next_up t.done (drop t.main main) (drop t.spare spare) (parts_of main) (parts_of spare) g.on-main g.on-spare some_left in
-        let more = turn.turned fuel (parts_of main) (parts_of spare) up in
-        let c = more.counted in
         sofar-turn (whole_feed main spare l₀) l₀ b l t.number t.done t.written _
         (sofar-as (whole_feed main spare l₀) l₀ b l t.number t.done t.written (left_feed main spare l₀ b t) _
         (ap (goes_on t.number (venue_of b))
         (ap₂ (λ (x y : ℕ). fed_from x (venue_of b) t.done (y - t.written) (parts_of main) (parts_of spare)) f (sym g.sofar.len)))
         g.sofar)
-        g.going r.number r.done r.written b' l' _ slice same t.done r.done more (omega arith)
+        g.going r.number r.done r.written b' l' _ slice same
+        (turn.turned fuel (parts_of main) (parts_of spare)
+        (next_up t.done (drop t.main main) (drop t.spare spare) (parts_of main) (parts_of spare) g.on-main g.on-spare some_left))
 
     fuel-left : length main + length spare - t.done ≡ suc (length main + length spare - suc t.done)
     fuel-left = let c = g.count in omega arith
@@ -293,24 +286,10 @@ module _ (main spare l₀ b l : List ℕ) (t : FeedProgress) (g : Feeding main s
         sofar-ends (whole_feed main spare l₀) l₀ b' l' r.number r.done r.written _ (goes-not r.number (venue_of b') _ e)
         (turned (length main + length spare - suc t.done) fuel-left)
 
--- the rest of the report zeroed
-pub fed : (main spare l₀ b₀ b l z : List ℕ) (t : FeedProgress) → LinesStart b₀ main spare → FeedEnded main spare l₀ b l t →
-    z ≡ take t.written l ++ replicate (length l - t.written) 0 →
-    call_of (returned_with (record { number = t.number; done = t.done; written = t.written }) (venue_of b)) z ≡ feed (length l₀) main spare
-fed main spare l₀ b₀ b l z t s d e =
-    ended-call (whole_feed main spare l₀) l₀ b l t.number t.done t.written z (venue_of b) d e refl
-    ∙ feed-is (parts_of main) (parts_of spare) (next-whole main spare s.main s.spare) (length l₀) main spare refl refl s.main s.spare
-
--- The venue by value --------------------------------------------------------------------------
-
--- a sound venue leaves a sound one
-feed-sound : (room : ℕ) (main spare : List ℕ) → SoundVenue (feed room main spare).returned.venue
-unfolding feed numbered run called
-feed-sound room main spare = let bs = joined (handed main spare).messages in run_sound (length bs) fresh_venue 0 room bs fresh-sound
-
-pub fed-sound : (room : ℕ) (main spare b z : List ℕ) (r : Returned) → r.venue ≡ venue_of b → call_of r z ≡ feed room main spare → SoundVenue (venue_of b)
-fed-sound room main spare b z r e call = subst SoundVenue (sym (ap (λ (c : Call). c.returned.venue) call) ∙ e) (feed-sound room main spare)
-
--- its bytes are read back
-pub venue-back : (v w : Venue) (m : List ℕ) → SoundVenue v → m ≡ venue_bytes v → w ≡ venue_from m → w ≡ v
-venue-back v w m s e f = f ∙ ap venue_from e ∙ held_whole v (declared v s)
+-- the rest of the report zeroed, and the venue read
+pub fed : (main spare l₀ b l z : List ℕ) (t : FeedProgress) (v : Venue) → faultless main ≡ true → faultless spare ≡ true → FeedEnded main spare l₀ b l t →
+    z ≡ take t.written l ++ replicate (length l - t.written) 0 → v ≡ venue_of b →
+    call_of (record { number = t.number; done = t.done; written = t.written; venue = v }) z ≡ feed (length l₀) main spare
+fed main spare l₀ b l z t v fm fs d e u =
+    ended-call (whole_feed main spare l₀) l₀ b l t.number t.done t.written z v d e u
+    ∙ feed-is (parts_of main) (parts_of spare) (next-whole main spare fm fs) (length l₀) main spare refl refl fm fs

@@ -12,7 +12,7 @@ use Rattle.engine.specs.Runs.{Turned}
 abbrev pub stops_at : FeedProgress → (number : ℕ) → FeedProgress
 stops_at t k = record { number = k; done = t.done; main = t.main; spare = t.spare; written = t.written }
 
--- what a turn requires: a sound venue, room, lines that are ready at their positions, and something left on one of them
+-- what a turn asks: a sound venue, room, lines that are ready at their positions, and something left on one of them
 pub record FeedReady (t : FeedProgress) (b main spare l : List ℕ) : Type 0 where
   pub slice : length b ≡ size
   pub dense : Dense b

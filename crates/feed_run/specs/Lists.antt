@@ -11,7 +11,7 @@ use Rattle.engine.specs.Sheets.{Ran}
 abbrev pub WasFed : (main spare held : List ℕ) → Returned → (left : List ℕ) → Type 0
 WasFed main spare held r left = call_of r left ≡ feed (length held) main spare
 
--- "The call returns what a run of the list handed out returns, but 19 to 21 as its number where one stopped it": with as many report bytes for both
+-- "The call returns what a run of the list handed out returns, but 19 to 21 as its number where one stopped it": as many report bytes being given to both
 abbrev pub ReturnsAsRun : Type 0
 ReturnsAsRun = (main spare held₁ held₂ : List ℕ) → length held₁ ≡ length held₂ → (r₁ r₂ : Returned) (left₁ left₂ : List ℕ) →
     WasFed main spare held₁ r₁ left₁ → Ran (joined (handed main spare).messages) held₂ r₂ left₂ →

@@ -1,13 +1,11 @@
 // The messages of two lines of one feed, number by number, from a fresh venue.
 ghost use Rattle.std.specs.Prelude.{◌≡◌, length};
 ghost use Rattle.feed.specs.Feed as feeding;
-ghost use Rattle.places.specs.Layout.{venue_of};
-ghost use Rattle.engine.specs.Runs.{returned_with, call_of};
+ghost use Rattle.engine.specs.Runs.{call_of};
 ghost use Rattle.feed_run.specs.Feeds.{stops_at, FeedReady, Feeds};
-ghost use Rattle.feed_run.specs.Requirements.{FreshNumbers, SoundNumbers, LinesStart};
+ghost use Rattle.feed_run.specs.Requirements.{LinesFaultless};
 
-use engine::Ended;
-use rules::{Returned, Venue};
+use rules::Returned;
 
 // Two lines of one feed --------------------------------------------------------------------------
 
@@ -21,7 +19,7 @@ pub struct FeedProgress {
     pub written: usize,
 }
 
-// The handing out, stopped with a number where it stands.
+// The handing out stopped with a number, where it stands.
 fn stop_at(t: FeedProgress, number: u8) -> FeedProgress
     ensures { result ≡ stops_at t number }
 {
@@ -34,7 +32,7 @@ fn stop_at(t: FeedProgress, number: u8) -> FeedProgress
     }
 }
 
-// Hands out and does the next message, or stops. The lines are not both at their ends.
+// One message more, or what stops it. The lines are not both at their ends.
 fn hand_out<'a>(
     t: FeedProgress,
     numbers: &mut [u32],
@@ -71,11 +69,12 @@ fn hand_out<'a>(
     }
 }
 
-// The messages of two faultless lines, number by number, on the numbers of a fresh venue.
-fn feed_lines<'a>(numbers: &mut [u32], main: &'a [u8], spare: &'a [u8], report: &mut [u8]) -> Ended
-    requires { LinesStart numbers.old main.now spare.now }
-    ensures { call_of (returned_with result (venue_of numbers.new)) report.new ≡ feeding.feed (length report.old) main.now spare.now }
+// The messages of two faultless lines, number by number, from a fresh venue.
+fn feed_lines<'a>(main: &'a [u8], spare: &'a [u8], report: &mut [u8]) -> Returned
+    requires { LinesFaultless main.now spare.now }
+    ensures { call_of result report.new ≡ feeding.feed (length report.old) main.now spare.now }
 {
+    let mut numbers = venue_numbers::fresh_numbers();
     let mut t = FeedProgress {
         number: 0,
         done: 0,
@@ -87,54 +86,30 @@ fn feed_lines<'a>(numbers: &mut [u32], main: &'a [u8], spare: &'a [u8], report: 
         if feed::at_ends(main, t.main, spare, t.spare) {
             break;
         }
-        t = hand_out(t, numbers, main, spare, report);
+        t = hand_out(t, &mut numbers, main, spare, report);
         if t.number != 0 {
             break;
         }
     }
     records::zero_from(report, t.written);
-    Ended {
+    let venue = places::venue_of(&numbers);
+    Returned {
         number: t.number,
         done: t.done,
         written: t.written,
+        venue,
     }
 }
 
-// The messages of a main and a spare line, each after its number, on the numbers of a fresh venue. The report holds their records, then zeros.
-pub fn feed_on_numbers<'a>(
-    numbers: &mut [u32],
-    main: &'a [u8],
-    spare: &'a [u8],
-    report: &mut [u8],
-) -> Ended
-    requires { FreshNumbers numbers.old }
-    ensures { call_of (returned_with result (venue_of numbers.new)) report.new ≡ feeding.feed (length report.old) main.now spare.now }
-{
-    if !feed::is_faultless(main) {
-        return engine::end_before(21, report);
-    }
-    if !feed::is_faultless(spare) {
-        return engine::end_before(21, report);
-    }
-    feed_lines(numbers, main, spare, report)
-}
-
-// The venue that the numbers stand for, by value: the function writes the venue's bytes and reads them.
-fn venue_read(numbers: &[u32]) -> Venue
-    requires { SoundNumbers numbers.now }
-    ensures { result ≡ venue_of numbers.now }
-{
-    let mut bytes = [0u8; venue_bytes::VENUE_SIZE];
-    numbers_writer::put_numbers(&mut bytes, numbers);
-    venue_bytes::venue_from(&bytes)
-}
-
-// The messages of a main and a spare line, each after its number, from a fresh venue. The venue after them is returned by value.
+// The messages of a main and a spare line, each after its number, from a fresh venue. The report holds their records, then zeros.
 pub fn feed<'a>(main: &'a [u8], spare: &'a [u8], report: &mut [u8]) -> Returned
     ensures { call_of result report.new ≡ feeding.feed (length report.old) main.now spare.now }
 {
-    let mut numbers = venue_numbers::fresh_numbers();
-    let r = feed_on_numbers(&mut numbers, main, spare, report);
-    let venue = venue_read(&numbers);
-    engine::returned_with(r, venue)
+    if !feed::is_faultless(main) {
+        return engine::end_call(21, arithmetic::fresh(), report);
+    }
+    if !feed::is_faultless(spare) {
+        return engine::end_call(21, arithmetic::fresh(), report);
+    }
+    feed_lines(main, spare, report)
 }

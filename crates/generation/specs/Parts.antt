@@ -1,4 +1,4 @@
--- Parts of generation that have a function of their own.
+-- Parts of generation that a function of their own decides.
 use Rattle.std.specs.Prelude.{Bool, not, ◌&&◌, ℕ, eqb}
 use Rattle.rules.specs.declared.Complex.{Complex}
 use Rattle.rules.specs.declared.Legging.{Legging}
@@ -22,18 +22,18 @@ ranged_price v s d p = if within (increment v s) 100000 (displayed_price (increm
 unfoldable pub priced_leg : Venue → Complex → (series side : ℕ) → ℕ
 priced_leg v c s d = if held (other_clear v c s) then ranged_price v s d (leg_price v c s d) else 0
 
--- the conditions on c that are the same for both legs; they depend on no legging order
+-- what is asked of c for both its legs, and no legging order changes
 unfoldable pub may_generate : Venue → Complex → Bool
 may_generate v c = one_to_one c && both_open v c && in_band v c c.limit
 
--- the displayed price of p at side d of series s is no worse than the best regular price there, and p reaches nothing opposite
+-- a price p at side d of series s is no worse than the best regular of its side, and reaches nothing opposite
 unfoldable pub price_may_stand : Venue → (series side p : ℕ) → Bool
 price_may_stand v s d p =
     displayed_no_worse v s d p
     && not (reaches_any d p (best_own v s (opposite d)))
     && not (reaches_any d p (away v s (opposite d)))
 
--- every condition on the leg's legging order at price p, except that the others stand, and the ceiling
+-- all that is asked of the leg's legging order at price p but that the others stand, and the ceiling
 unfoldable pub may_stand : Venue → Complex → (series side p : ℕ) → Bool
 may_stand v c s d p = may_generate v c && price_may_stand v s d p && gives_way v c d p (legging_at v s d)
 

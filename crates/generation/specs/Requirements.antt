@@ -8,7 +8,7 @@ use Rattle.levels.specs.Grid.{LegsIn, SidesOf}
 use Rattle.rules.specs.declared.Complex.{Complex}
 use Rattle.levels.specs.declared.LegSides.{LegSides}
 
--- what the generation of the leg of c at side d of series s requires
+-- what the generation of the leg of c at side d of series s asks
 pub record PlanReady (b : List ℕ) (c : Complex) (s d : ℕ) : Type 0 where
   pub whole : length b ≡ size
   pub right : Right b
@@ -18,7 +18,7 @@ pub record PlanReady (b : List ℕ) (c : Complex) (s d : ℕ) : Type 0 where
   pub some : 0 < c.quantity
   pub may : may_generate (venue_of b) c ≡ true
 
--- what the test of a leg that does not yet stand requires
+-- what the test of a leg that is yet to stand asks
 pub record StandReady (b : List ℕ) (x : LegSides) (c : Complex) (s d : ℕ) : Type 0 where
   pub whole : length b ≡ size
   pub sides : SidesOf x c s d (venue_of b).regular

@@ -28,7 +28,7 @@ fn sign_times(d: u8, z: i64) -> i64
     0 - z
 }
 
-// A number as a price; 0 where it is negative.
+// A price; 0 where the number is negative.
 fn as_price(z: i64) -> u64
     ensures { result ≡ as_price z }
 {
@@ -38,7 +38,7 @@ fn as_price(z: i64) -> u64
     z as u64
 }
 
-// The price p, if its displayed price is from the increment to 100,000; else 0.
+// A price whose displayed price is from the increment to 100,000; else 0.
 fn ranged(numbers: &[u32], s: u8, d: u8, p: u64) -> u32
     requires { IncrementReady numbers.now s }
     ensures { result ≡ ranged_price (venue_of numbers.now) s d p }
@@ -58,7 +58,7 @@ fn ranged(numbers: &[u32], s: u8, d: u8, p: u64) -> u32
     price
 }
 
-// The price of the leg of c at side d of series s: sign × (N - the other leg's sign × its clear price); 0 where no such price is in range.
+// The price of the leg of c at side d of series s: sign × (N - the other leg's sign × its clear price); 0 where there is none in range.
 pub fn leg_price(numbers: &[u32], taken: TakenLevels, c: Complex, s: u8, d: u8) -> u32
     requires { TakenSeries numbers.now taken c s }
     ensures { result ≡ priced_leg (venue_of numbers.now) c s d }
@@ -87,7 +87,7 @@ fn may_generate(numbers: &[u32], taken: TakenLevels, c: Complex) -> bool
     prices::in_band(numbers, taken, c, limit_of(c))
 }
 
-// The displayed price of p at side d of series s is no worse than `own`, the best regular price there, and p reaches nothing opposite (`facing`: best regular).
+// A price p at side d of series s is no worse than own, the best regular of its side, and reaches nothing opposite; facing is the best regular there.
 fn price_may_stand(numbers: &[u32], own: u32, facing: u32, s: u8, d: u8, p: u32) -> bool
     requires { BestPrices numbers.now own facing s d }
     ensures { result ≡ price_may_stand (venue_of numbers.now) s d p }
@@ -102,7 +102,7 @@ fn price_may_stand(numbers: &[u32], own: u32, facing: u32, s: u8, d: u8, p: u32)
     !levels::reaches_any(d, p, prices::away_price(numbers, s, f))
 }
 
-// What stands at side d of series s gives way to c at price p: its price is worse, or it is equal, its parent is of class 1 and c of class 0.
+// What stands at side d of series s gives way to c at price p: it is worse, or of class 1 at an equal price while c is of class 0.
 pub fn gives_way(numbers: &[u32], c: Complex, s: u8, d: u8, p: u32) -> bool
     requires { SideReady numbers.now s d }
     ensures { result ≡ gives_way (venue_of numbers.now) c d p (legging_at (venue_of numbers.now) s d) }
@@ -124,7 +124,7 @@ pub fn gives_way(numbers: &[u32], c: Complex, s: u8, d: u8, p: u32) -> bool
     holder.class == 1
 }
 
-// Every condition on a legging order of c at price p, except that the others stand, and the ceiling. c may generate.
+// All that is asked of a legging order of c at price p but that the others stand, and the ceiling; c may generate.
 fn may_stand(numbers: &[u32], sides: LegSides, c: Complex, s: u8, d: u8, p: u32) -> bool
     requires { StandReady numbers.now sides c s d }
     ensures { result ≡ may_stand (venue_of numbers.now) c s d p }
@@ -147,7 +147,7 @@ fn leg_quantity(taken: TakenLevels, c: Complex, s: u8) -> u32
     best.size as u32
 }
 
-// With l at place n every other legging order passes its test. The grid depends on the regular orders alone. The function restores the venue.
+// With l at place n every other legging order passes its test; the grid is of the regular orders alone. The venue is left as it was.
 fn others_stand_with(numbers: &mut [u32], n: usize, l: Legging) -> bool
     requires { RightPlace numbers.old n }
     ensures value { result ≡ others_stand (placed n l (venue_of numbers.old)) n 0 (placed n l (venue_of numbers.old)).legging }
@@ -185,7 +185,7 @@ fn plan_leg(numbers: &[u32], c: Complex, s: u8, d: u8) -> Legging
     }
 }
 
-// The ceiling lets the message of this number make one more in series s: there were fewer than 20, or the oldest of the last 20 was 256 or more messages ago.
+// The ceiling allows one more in series s to the message of this number: the oldest of the last 20 is none, or it was 256 messages before or more.
 fn is_under_ceiling(numbers: &[u32], number: u32, s: u8) -> bool
     requires { SeriesReady numbers.now s }
     ensures { result ≡ under_ceiling number (generations_of (venue_of numbers.now) s) }
@@ -197,7 +197,7 @@ fn is_under_ceiling(numbers: &[u32], number: u32, s: u8) -> bool
     (oldest as u64) + 256 <= (number as u64)
 }
 
-// What stands at the place goes; then the function puts l there and counts it in its series.
+// The holder of the place goes, and then l is put there and counted in its series.
 fn make_leg(
     numbers: &mut [u32],
     number: u32,
@@ -220,7 +220,7 @@ fn make_leg(
     records::emit_generated(out, pos, id, s, d, l.price, displayed, l.quantity)
 }
 
-// Makes the legging order of a leg of c where every condition holds. The caller has tested the conditions that are the same for both legs.
+// The legging order of a leg of c, made where every condition holds. Those that no leg changes are tested before.
 pub fn generate_leg(
     numbers: &mut [u32],
     number: u32,
@@ -247,7 +247,7 @@ pub fn generate_leg(
     make_leg(numbers, number, c.id, s, d, l, out, at)
 }
 
-// Generation for the first leg and then the second of the order at place i. `may_generate` depends on no legging order, so one test serves both legs.
+// Generation for the first leg and then the second of the order at place i. No legging order changes whether it may.
 pub fn generate_order(
     numbers: &mut [u32],
     number: u32,

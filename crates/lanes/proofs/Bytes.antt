@@ -1,10 +1,11 @@
--- Bytes in the place of others, one by one; and a part of them.
+-- Bytes in the place of others, one by one; and a part lent and put back.
 use mathlib.Core.Path.{◌≡◌, sym, ap, ◌∙◌}
-use mathlib.Core.List.{List}
+use mathlib.Core.List.{List, ◌++◌, append_assoc}
 use Prim.Native.Nat.{ℕ, ◌+◌, ◌-◌, ◌≤◌, ◌<◌}
 use native.Mathlib.Omega.{arith}
 use lib.ListN.{length, get_or, take, drop, length-drop, get_or-append}
-use lib.Seq.{get_or-take, get_or-drop, length-take-le, ext_get_or}
+use lib.Seq.{get_or-take, get_or-drop, drop-drop, length-take-le, ext_get_or}
+use borrow.Rule.Slice.PartMut.{put_mid}
 use Rattle.records.specs.Seen.{pasted}
 use Rattle.records.proofs.SeenLaws.{pasted_below, pasted-from, pasted_above}
 
@@ -22,6 +23,12 @@ module _ (l bs : List ℕ) (at : ℕ) (inside : at ≤ length l) where
       let e : n + (k - n) ≡ k = omega arith in
       ap (λ (i : ℕ). get_or (pasted l at bs) i 0) (sym e) ∙ sym (get_or-drop n (pasted l at bs) (k - n) 0)
       ∙ ap (λ (x : List ℕ). get_or x (k - n) 0) (pasted_above l bs at inside) ∙ get_or-drop n l (k - n) 0 ∙ ap (λ (i : ℕ). get_or l i 0) e
+
+-- a part put back
+pub part-back : (l ys : List ℕ) (a k : ℕ) → k ≡ length ys → put_mid a k l ys ≡ pasted l a ys
+unfolding pasted
+part-back l ys a k e =
+    ap (λ (x : List ℕ). take a l ++ (ys ++ x)) (drop-drop k a l ∙ ap (λ (n : ℕ). drop (a + n) l) e) ∙ sym (append_assoc (take a l) ys (drop (a + length ys) l))
 
 pub part_length : (l : List ℕ) (a k : ℕ) → a + k ≤ length l → length (take k (drop a l)) ≡ k
 part_length l a k h = length-take-le k (drop a l) (omega (arith, length-drop a l))

@@ -67,7 +67,7 @@ module _ (but : ℕ) (l : Layer) where
             let h = leb-true l.last 3 (and_l (leb l.last 3) (of_four (λ w. lane_sound_but but w (lane_at l w))) p) in omega arith
             )
 
--- with 4 all venues are checked
+-- with 4 all venues are asked after
 pub but-none : (l : Layer) → length l.lanes ≡ 4 → layer_sound_but 4 l ≡ layer_sound l
 but-none l four = go (layer_sound_but 4 l) refl
   where

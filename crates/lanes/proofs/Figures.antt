@@ -11,6 +11,7 @@ use lib.Dec.{leb}
 use lib.ListN.{length, get_or, take, drop}
 use lib.Seq.{get_or-take, get_or-drop}
 use borrow.Author.Tests.{le-leb, lt-leb, eq-eqb, ne_eqb}
+use Rattle.rules.specs.declared.Venue.{Venue}
 use Rattle.rules.specs.Base.{all}
 use Rattle.rules.specs.Bytes.{u8_at, u32_at}
 use Rattle.rules.proofs.Arranging.{all-at}
@@ -152,17 +153,16 @@ module _ (bs : List ℕ) (but v : ℕ) (w : Bool) (e : w ≡ wait_sound (lane_fr
   unfolding lane_sound_but
   lane-passed f g = rw (← e, f, eq-eqb v but g)
 
-  pub lane-checked : (d : ℕ) (r : Bool) → w ≡ true → v ≢ but → d ≡ u32_at bs done_at → r ≡ ready (venue_from (take venue_size bs)) d → r ≡ lane_sound_but but v (lane_from bs)
+  pub lane-checked : (x : Venue) (d : ℕ) (r : Bool) → w ≡ true → v ≢ but → x ≡ venue_from (take venue_size bs) → d ≡ u32_at bs done_at → r ≡ ready x d → r ≡ lane_sound_but but v (lane_from bs)
   unfolding lane_sound_but
-  lane-checked d r f n h q =
-      q ∙ ap (ready (venue_from (take venue_size bs))) h ∙ sym (rw (← e, f, ne_eqb v but n) (gets_none (lane_from bs) ∙ unfold lane_from in (refl)))
+  lane-checked x d r f n g h q = q ∙ ap₂ ready g h ∙ sym (rw (← e, f, ne_eqb v but n) (gets_none (lane_from bs) ∙ unfold lane_from in (refl)))
 
 module _ (m : List ℕ) (but : ℕ) where
   -- lane v of the layer
   abbrev passes : ℕ → Bool
   passes v = lane_sound_but but v (lane_at (layer_from m) v)
 
-  -- lane i, as a slice
+  -- lane i, as it is lent
   pub lent : (i a k : ℕ) (r : Bool) → a ≡ lane_size * i → k ≡ lane_size → i < 4 → r ≡ lane_sound_but but i (lane_from (take k (drop a m))) → r ≡ passes i
   lent i a k r p q h e =
       e ∙ ap (lane_sound_but but i) (ap₂ (λ (x y : ℕ). lane_from (take y (drop x m))) p q ∙ unfold lane_of lane_part in (sym (lane-of m i h)))

@@ -1,10 +1,10 @@
 -- The layer's bytes read back, lane by lane; and the fresh layer's.
-use mathlib.Core.Path.{◌≡◌, refl, sym, ap, ap₂, subst, ◌∙◌}
+use mathlib.Core.Path.{◌≡◌, refl, sym, ap, ◌∙◌}
 use mathlib.Core.List.{List, [], ◌∷◌, ◌++◌, append_assoc}
-use Prim.Native.Nat.{ℕ, zero, suc, ◌+◌, ◌-◌, ◌*◌, ◌%◌, ◌≤◌, ◌<◌}
+use Prim.Native.Nat.{ℕ, zero, suc, ◌+◌, ◌-◌, ◌*◌, ◌%◌, ◌<◌}
 use native.Mathlib.Omega.{arith}
 use lib.ListN.{length, get_or, take, drop, replicate, length-append, length-replicate, get_or-replicate}
-use lib.Seq.{take_at, drop_at, drop-drop, ext_get_or, get_or-append-add}
+use lib.Seq.{take_at, drop_at, drop-drop, ext_get_or}
 use borrow.Author.Tests.{eq-eqb}
 use Rattle.rules.specs.Words.{fresh_venue}
 use Rattle.rules.specs.Bytes.{u8_at, u16_at, u32_at, u8, bytes}
@@ -19,9 +19,7 @@ use Rattle.engine.specs.Hosts.{fresh_hosted}
 use Rattle.engine.proofs.HostsLaws.{held_first}
 use Rattle.layer.specs.Layer.{Lane, Layer, fresh_lane, fresh_layer, lane_at}
 use Rattle.lanes.specs.Memory.{done_at, count_at, lane_size, last_at, layer_size, place_from, lane_from, lane_part, lane_of, layer_from, lane_bytes, layer_bytes}
-use Rattle.lanes.specs.Canonical.{CanonicalLane, Canonical}
 use Rattle.lanes.proofs.WaitJoined.{lane-eq}
-use Rattle.lanes.proofs.HeadCalled.{zero_in}
 use Rattle.lanes.proofs.Lent.{layer-eq}
 
 -- Lanes one after another ---------------------------------------------------------------------
@@ -115,22 +113,3 @@ unfolding fresh_layer lane_at
 fresh-held =
     layer-back fresh_layer refl fresh-whole (omega arith)
     (λ i h. let e = get_or-replicate 4 i fresh_lane fresh_lane h in ap (λ (c : Lane). lane_from (lane_bytes c)) e ∙ fresh-back ∙ sym e)
-
-fresh-zero : (k : ℕ) → venue_size ≤ k → u8_at (lane_bytes fresh_lane) k ≡ 0
-unfolding u8_at
-fresh-zero k h =
-    let n = venue-length fresh_venue fresh-sized in
-    let e : k ≡ length (venue_bytes fresh_venue) + (k - venue_size) = omega arith in
-    ap₂ (λ (l : List ℕ) (i : ℕ). get_or l i 0) fresh-bytes e
-    ∙ get_or-append-add (venue_bytes fresh_venue) (replicate (lane_size - venue_size) 0) (k - venue_size) 0 ∙ zero_in (lane_size - venue_size) (k - venue_size)
-
-pub fresh-canonical : CanonicalLane (lane_bytes fresh_lane)
-fresh-canonical =
-    let n = fresh-zero count_at (omega arith) in
-    record { few = omega arith; short = λ i h. absurd (omega arith); after = λ i k h. absurd (omega arith); free = λ k h. fresh-zero k (omega arith) }
-
-pub layer-canonical : Canonical (layer_bytes fresh_layer)
-unfolding layer_bytes fresh_layer
-layer-canonical v h =
-    subst CanonicalLane
-    (sym (lane-part (replicate 4 fresh_lane) (u8 3) fresh-whole v h ∙ ap lane_bytes (get_or-replicate 4 v fresh_lane fresh_lane h))) fresh-canonical

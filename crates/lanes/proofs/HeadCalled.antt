@@ -5,10 +5,9 @@ use mathlib.Core.Logic.{◌≢◌}
 use mathlib.Core.List.{List, [], ◌∷◌, ◌++◌, append_assoc}
 use Prim.Native.Nat.{ℕ, zero, suc, ◌+◌, ◌-◌, ◌*◌, ◌≤◌, ◌<◌}
 use native.Mathlib.Omega.{arith}
-use native.Mathlib.Decide.{dec_lt}
 use lib.Dec.{eqb}
-use lib.ListN.{length, get_or, take, drop, replicate, length-append, length-drop, length-replicate, get_or-append, get_or-eq_default}
-use lib.Seq.{length-take-le, take_at, drop_at, drop-append-le, drop-drop, get_or-drop, get_or-append-add}
+use lib.ListN.{length, take, drop, replicate, length-append, length-drop, length-replicate, get_or-append}
+use lib.Seq.{length-take-le, take_at, drop_at, drop-append-le, drop-drop}
 use borrow.Author.Tests.{eq-eqb}
 use Rattle.rules.specs.declared.Venue.{Venue}
 use Rattle.rules.specs.Base.{if◌then◌else◌}
@@ -25,8 +24,7 @@ use Rattle.engine.specs.Hosts.{one_hosted, leaves}
 use Rattle.engine.proofs.HostsLaws.{held-shaped, held_next}
 use Rattle.layer.specs.Layer.{wait_sound, head, head_call, advanced}
 use Rattle.layer.proofs.Ways.{sound-for-in, sound-for-out, ending, does}
-use Rattle.lanes.specs.Memory.{done_at, count_at, places_at, place_size, lane_size, message_from, place_from, lane_from, head_called, venue_part, moved_bytes, advanced_bytes}
-use Rattle.lanes.specs.Canonical.{CanonicalLane}
+use Rattle.lanes.specs.Memory.{done_at, count_at, places_at, place_size, lane_size, message_from, place_from, lane_from, head_called, venue_part, advanced_bytes}
 use Rattle.lanes.proofs.Places.{message-same, waits-short}
 use Rattle.lanes.proofs.WaitJoined.{lane-eq}
 
@@ -47,11 +45,6 @@ upto_next : {A : Type 0} (f : ℕ → A) (i k : ℕ) → upto (λ (j : ℕ). f (
 unfolding upto
 upto_next f i zero = refl
 upto_next {A} f i (suc k) = ap (λ (l : List A). f (suc i) ∷ l) (upto_next f (suc i) k)
-
-pub zero_in : (n i : ℕ) → ◌≡◌ {A = ℕ} (get_or (replicate n 0) i 0) 0
-zero_in zero i = refl
-zero_in (suc n) zero = refl
-zero_in (suc n) (suc i) = zero_in n i
 
 -- the places of a wait, one place down
 module _ (bs : List ℕ) (x : List ℕ) (d c : ℕ) (size : length bs ≡ lane_size) (venue : length x ≡ venue_size) where
@@ -123,40 +116,6 @@ module _ (bs : List ℕ) (x : List ℕ) (d c : ℕ) (size : length bs ≡ lane_s
       ∙ upto-same (place_from moved) (λ (j : ℕ). place_from bs (suc j)) 0 c (λ i _ h. moved-place i (omega arith) (short (suc i) (omega arith)))
       ∙ upto_next (place_from bs) 0 c ∙ ap (λ (k : ℕ). drop 1 (upto (place_from bs) 0 k)) e
 
-  -- byte by byte
-  rest-byte : (j : ℕ) → get_or rest j 0 ≡ get_or bs (places_at + place_size + j) 0
-  rest-byte j = elim (dec_lt j (7 * place_size)) [
-    | yes p ↦ get_or-append (drop (places_at + place_size) bs) (replicate place_size 0) 0 j (omega (arith, rest-size)) ∙ get_or-drop (places_at + place_size) bs j 0
-    | no p ↦ ap (λ (i : ℕ). get_or rest i 0) (past j p) ∙ get_or-append-add (drop (places_at + place_size) bs) (replicate place_size 0) (j - 7 * place_size) 0
-        ∙ zero_in place_size (j - 7 * place_size) ∙ sym (get_or-eq_default bs 0 {n = places_at + place_size + j} (omega arith))
-  ]
-    where
-      past : (j : ℕ) → (j < 7 * place_size → ⊥) → j ≡ length (drop (places_at + place_size) bs) + (j - 7 * place_size)
-      past j p = omega (arith, rest-size)
-
-  moved-byte : (k : ℕ) → places_at ≤ k → u8_at moved k ≡ u8_at bs (k + place_size)
-  unfolding u8_at
-  moved-byte k h =
-      let e : k ≡ length (x ++ u32 d ++ u8 c) + (k - places_at) = omega (arith, before-places) in
-      let f : places_at + place_size + (k - places_at) ≡ k + place_size = omega arith in
-      ap (λ (i : ℕ). get_or moved i 0) e ∙ ap (λ (l : List ℕ). get_or l (length (x ++ u32 d ++ u8 c) + (k - places_at)) 0) from_places
-      ∙ get_or-append-add (x ++ u32 d ++ u8 c) rest (k - places_at) 0 ∙ rest-byte (k - places_at) ∙ ap (λ (i : ℕ). get_or bs i 0) f
-
-  pub moved-canonical : CanonicalLane bs → suc c ≡ u8_at bs count_at → CanonicalLane moved
-  moved-canonical w e =
-      let most = w.few in
-      let count = moved-count (omega arith) in
-      record {
-        few = omega arith;
-        short = λ i h. let a : place_size * i + places_at + place_size ≡ place_size * suc i + places_at = omega arith in
-            omega (arith, w.short (suc i) (omega arith), moved-byte (place_size * i + places_at) (omega arith) ∙ ap (u8_at bs) a);
-        after = λ i k h g l. let a : place_size * i + places_at + place_size ≡ place_size * suc i + places_at = omega arith in
-            let b : place_size * i + places_at + k + place_size ≡ place_size * suc i + places_at + k = omega arith in
-            moved-byte (place_size * i + places_at + k) (omega arith) ∙ ap (u8_at bs) b
-            ∙ w.after (suc i) k (omega arith) (omega (arith, moved-byte (place_size * i + places_at) (omega arith) ∙ ap (u8_at bs) a)) l;
-        free = λ k h. moved-byte k (omega arith) ∙ w.free (k + place_size) (omega arith);
-      }
-
 -- The lane ------------------------------------------------------------------------------------
 
 module _ (bs : List ℕ) (room : ℕ) (size : length bs ≡ lane_size) (fine : wait_sound (lane_from bs).wait ≡ true) (some : 0 < u8_at bs count_at) (few : u8_at bs count_at ≤ 8) where
@@ -204,7 +163,7 @@ module _ (bs : List ℕ) (room : ℕ) (size : length bs ≡ lane_size) (fine : w
       go false = front-size
 
   pub lane-advanced : r.returned.done ≢ 0 → lane_from (advanced_bytes bs r.returned.number r.returned.venue) ≡ advanced (lane_from bs) (head_call (lane_from bs) room)
-  unfolding lane_from advanced advanced_bytes moved_bytes
+  unfolding lane_from advanced advanced_bytes
   lane-advanced done =
       let kept = venue-kept done in
       let k = does (venue_from (take venue_size bs)) (u32_at bs done_at) room r (unfold head_called in (ending (venue_from (take venue_size bs)) (u32_at bs done_at) room (place_from bs 0))) done in
@@ -217,9 +176,5 @@ module _ (bs : List ℕ) (room : ℕ) (size : length bs ≡ lane_size) (fine : w
       (moved-wait bs venue-after _ (u8_at bs count_at - 1) size kept (u8_at bs count_at) (omega arith) few (λ i j. waits-short bs i fine j))
 
   pub advanced-size : r.returned.done ≢ 0 → length (advanced_bytes bs r.returned.number r.returned.venue) ≡ lane_size
-  unfolding advanced_bytes moved_bytes
+  unfolding advanced_bytes
   advanced-size done = moved-size bs venue-after _ _ size (venue-kept done)
-
-  pub advanced-canonical : r.returned.done ≢ 0 → CanonicalLane bs → CanonicalLane (advanced_bytes bs r.returned.number r.returned.venue)
-  unfolding advanced_bytes moved_bytes
-  advanced-canonical done c = moved-canonical bs venue-after _ (u8_at bs count_at - 1) size (venue-kept done) c (omega arith)

@@ -1,10 +1,10 @@
--- A lane of the layer, taken as a slice and put back; and the venue served last, written.
-use mathlib.Core.Path.{◌≡◌, sym, ap, subst, ◌∙◌}
+-- A lane of the layer lent and put back, and the venue served last written.
+use mathlib.Core.Path.{◌≡◌, sym, ap, ◌∙◌}
 use mathlib.Core.Logic.{◌≢◌}
 use mathlib.Core.List.{List}
 use Prim.Native.Nat.{ℕ, ◌+◌, ◌*◌, ◌<◌}
 use native.Mathlib.Omega.{arith}
-use native.Mathlib.Decide.{dec_lt, ℕ_discrete}
+use native.Mathlib.Decide.{dec_lt}
 use lib.ListN.{length, set, length-set}
 use lib.Seq.{take_at, get_or-set_same, get_or-set_other}
 use Rattle.rules.specs.Bytes.{u8_at}
@@ -14,7 +14,6 @@ use Rattle.places.specs.Layout.{upto}
 use Rattle.places.proofs.Tables.{upto-same, upto-set}
 use Rattle.layer.specs.Layer.{Layer, fresh_lane, with_lane}
 use Rattle.lanes.specs.Memory.{lane_size, last_at, layer_size, lane_from, lane_part, lane_of, layer_from, with_part}
-use Rattle.lanes.specs.Canonical.{CanonicalLane, Canonical}
 use Rattle.lanes.proofs.Bytes.{byte-below, byte_above, same-part}
 
 pub layer-eq : (a b : Layer) → a.lanes ≡ b.lanes → a.last ≡ b.last → a ≡ b
@@ -49,23 +48,12 @@ module _ (m : List ℕ) (v : ℕ) (bs : List ℕ) (size : length m ≡ layer_siz
       ∙ ap (λ (b : List ℕ). set (upto (lane_of m) 0 4) v (lane_from b)) part-anew)
       (unfold u8_at with_part in (byte_above m bs (lane_size * v) (omega arith) last_at (omega arith)))
 
-  pub canonical-anew : Canonical m → CanonicalLane bs → Canonical (with_part m v bs)
-  canonical-anew c d w h = elim (ℕ_discrete w v) [
-    | yes e ↦ subst (λ (i : ℕ). CanonicalLane (lane_part (with_part m v bs) i)) (sym e) (subst CanonicalLane (sym part-anew) d)
-    | no n ↦ subst CanonicalLane (part-other w h n) (c w h)
-  ]
-
 -- the venue served last
-part-last : (m : List ℕ) (x w : ℕ) → length m ≡ layer_size → w < 4 → lane_part (set m last_at x) w ≡ lane_part m w
-unfolding lane_part
-part-last m x w size h =
-    same-part (set m last_at x) m (lane_size * w) lane_size (omega (arith, length-set m last_at x)) (omega arith)
-    (λ i k. get_or-set_other m last_at (lane_size * w + i) x 0 (λ e. omega arith))
-
-pub canonical-last : (m : List ℕ) (x : ℕ) → length m ≡ layer_size → Canonical m → Canonical (set m last_at x)
-canonical-last m x size c w h = subst CanonicalLane (sym (part-last m x w size h)) (c w h)
-
 pub last-anew : (m : List ℕ) (x : ℕ) → length m ≡ layer_size → layer_from (set m last_at x) ≡ record { lanes = (layer_from m).lanes; last = x }
-unfolding layer_from lane_of u8_at
+unfolding layer_from lane_of lane_part u8_at
 last-anew m x size =
-    layer-eq _ _ (upto-same (lane_of (set m last_at x)) (lane_of m) 0 4 (λ w _ h. ap lane_from (part-last m x w size h))) (get_or-set_same m last_at x 0 (omega arith))
+    layer-eq _ _
+    (upto-same (lane_of (set m last_at x)) (lane_of m) 0 4 (λ w _ h. ap lane_from
+    (same-part (set m last_at x) m (lane_size * w) lane_size (omega (arith, length-set m last_at x)) (omega arith)
+    (λ i k. get_or-set_other m last_at (lane_size * w + i) x 0 (λ e. omega arith)))))
+    (get_or-set_same m last_at x 0 (omega arith))

@@ -1,15 +1,14 @@
 -- Laws of the layer in memory, in the order in which each file uses the ones before it.
 --
---   Bytes      bytes in the place of others, and a part taken as a slice and put back
+--   Bytes      bytes in the place of others, and a part lent and put back
 --   Figures    a wait's figures, the venue to serve, and the checks lane by lane
---   ChecksLaws  the checks but one, and the layer's soundness
---   Lent       a lane of the layer, taken as a slice and put back
+--   Checking   the checks but one, and the layer's soundness
+--   Lent       a lane of the layer lent and put back
 --   Places     a message in its place
 --   WaitJoined  a message at the end of a wait
 --   HeadCalled  the head of a wait done by a call
 --   Fresh      the layer's bytes read back, and the fresh layer's
 --   MemoryLaws  what each small function writes
---   BytesBack  the canonical bytes of a layer written again: bytes-back, equal-bytes
 pub mod Bytes
 pub mod Figures
 pub mod ChecksLaws
@@ -19,4 +18,3 @@ pub mod WaitJoined
 pub mod HeadCalled
 pub mod Fresh
 pub mod MemoryLaws
-pub mod BytesBack

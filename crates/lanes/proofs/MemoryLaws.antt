@@ -1,32 +1,30 @@
 -- What each small function writes, as the equation of its contract.
 use mathlib.Core.Path.{◌≡◌, refl, sym, ap, ap₂, ◌∙◌}
+use mathlib.Core.Logic.{◌≢◌}
 use mathlib.Core.List.{List, [], ◌∷◌, ◌++◌, append_assoc}
 use Prim.Native.Nat.{ℕ, ◌+◌, ◌-◌, ◌*◌, ◌≤◌, ◌<◌}
 use native.Mathlib.Omega.{arith}
 use native.Mathlib.Numerals.{add-one}
-use lib.ListN.{length, get_or, set, take, drop, replicate, length-append, length-drop, length-set}
+use lib.ListN.{length, get_or, set, take, drop, replicate, length-append, length-drop, length-set, take-append-drop}
 use lib.Seq.{length-take-le, take_all, take-suc, take_at, drop_at, drop-drop, set_at, get_or-drop, paste, paste-zero, paste-suc, take-paste, drop-paste}
+use borrow.Author.Tests.{eq-eqb, ne_eqb}
 use borrow.Rule.Slice.PartMut.{put_mid}
 use Rattle.rules.specs.declared.Venue.{Venue}
+use Rattle.rules.specs.declared.Returned.{Returned}
 use Rattle.rules.specs.Words.{fresh_venue}
 use Rattle.rules.specs.Bytes.{u8_at, u32_at, u8, u32, bytes}
+use Rattle.rules.specs.Calls.{one}
 use Rattle.rules.proofs.Reading.{byte}
 use Rattle.records.specs.Seen.{Seen, seen, pasted, ◌plus◌}
 use Rattle.wire.proofs.Numbers.{u8-drop, u32-here}
 use Rattle.records.proofs.SeenLaws.{plus-in, pasted_length, pasted-to, pasted_above}
-use Rattle.venue_bytes.specs.Held.{venue_size, venue_bytes}
+use Rattle.venue_bytes.specs.Held.{venue_size, venue_bytes, venue_from}
+use Rattle.engine.specs.Runs.{call_of}
 use Rattle.layer.specs.Layer.{fresh_lane}
-use Rattle.lanes.specs.Memory.{done_at, count_at, places_at, place_size, lane_size, place_from, place_bytes, lane_bytes, joined_bytes, moved_bytes}
-use Rattle.numbers_writer.proofs.Tables.{part-back}
-use Rattle.lanes.proofs.Bytes.{part_length}
-use Rattle.lanes.proofs.Places.{head-lent, place-size}
+use Rattle.lanes.specs.Memory.{done_at, count_at, places_at, place_size, lane_size, place_from, place_bytes, lane_bytes, joined_bytes, head_called, venue_part, advanced_bytes}
+use Rattle.lanes.proofs.Bytes.{part-back}
+use Rattle.lanes.proofs.Places.{place-size}
 use Rattle.lanes.proofs.Fresh.{fresh-bytes}
-
--- a byte goes by what stands from it on
-u8-same : (at : ℕ) (x y : List ℕ) → drop at x ≡ drop at y → u8_at x at ≡ u8_at y at
-u8-same at x y e =
-    let z : at + 0 ≡ at = omega arith in
-    ap (u8_at x) (sym z) ∙ sym (u8-drop at x 0) ∙ ap (λ (b : List ℕ). u8_at b 0) e ∙ u8-drop at y 0 ∙ ap (u8_at y) z
 
 -- bytes written where they fit
 put_in : (l m bs : List ℕ) (at end : ℕ) → seen m end ≡ seen l at plus bs → at + length bs ≤ length l → (m ≡ pasted l at bs) × (end ≡ at + length bs)
@@ -60,6 +58,16 @@ joins-put bs m ys n k short e f g =
     ∙ ap (λ (x : ℕ). set (pasted bs (place_size * x + places_at) (place_bytes m)) count_at (x + 1)) e
 
 -- A lane advances -----------------------------------------------------------------------------
+
+-- the venue after its message
+module _ (bs : List ℕ) (number : ℕ) (v : Venue) where
+  pub after-refused : number ≢ 0 → bs ≡ venue_part bs number v ++ drop venue_size bs
+  unfolding venue_part
+  after-refused n = rw (ne_eqb number 0 n) (sym (take-append-drop venue_size bs))
+
+  pub after-accepted : (ys : List ℕ) → number ≡ 0 → ys ≡ venue_bytes v → ys ++ drop venue_size bs ≡ venue_part bs number v ++ drop venue_size bs
+  unfolding venue_part
+  after-accepted ys e p = rw (eq-eqb number 0 e) (ap (λ (x : List ℕ). x ++ drop venue_size bs) p)
 
 -- its messages done
 pub done-put : (bs m x : List ℕ) (end n : ℕ) → length bs ≡ lane_size → n ≡ u32_at bs done_at → x ≡ u32 (n + 1) → seen m end ≡ seen bs done_at plus x → m ≡ pasted bs done_at (u32 (u32_at bs done_at + 1))
@@ -122,55 +130,50 @@ module _ (bs : List ℕ) (size : length bs ≡ lane_size) (m : List ℕ) (i : �
       ∙ set_at (take count_at bs) (get_or bs count_at 0) (others bs ++ zeros) (u8_at bs count_at - 1) count_at (length-take-le count_at bs (omega arith))
       ∙ ap (λ (x : ℕ). take count_at bs ++ (x ∷ (others bs ++ zeros))) (sym (byte (u8_at bs count_at - 1) (omega arith))) ∙ sym (group _)
 
--- the two one after another
-module _ (bs m1 : List ℕ) (size : length bs ≡ lane_size) (p1 : m1 ≡ pasted bs done_at (u32 (u32_at bs done_at + 1))) where
-  tail-same : drop count_at m1 ≡ drop count_at bs
-  unfolding bytes
-  tail-same = ap (drop count_at) p1 ∙ pasted_above bs (u32 (u32_at bs done_at + 1)) done_at (omega arith)
+-- the three one after another
+module _ (bs : List ℕ) (number : ℕ) (v : Venue) (m1 : List ℕ) (size : length bs ≡ lane_size) (p1 : m1 ≡ venue_part bs number v ++ drop venue_size bs) (same : length m1 ≡ length bs) where
+  abbrev x : List ℕ
+  x = venue_part bs number v
 
-  pub count_same : u8_at m1 count_at ≡ u8_at bs count_at
-  count_same = u8-same count_at m1 bs tail-same
+  front-size : length x ≡ venue_size
+  front-size = omega (arith, ap length p1, length-append x (drop venue_size bs), length-drop venue_size bs)
 
-  pub moved-put : (m2 : List ℕ) → m2 ≡ take count_at m1 ++ u8 (u8_at m1 count_at - 1) ++ drop (places_at + place_size) m1 ++ replicate place_size 0 → m2 ≡ moved_bytes bs (take venue_size bs)
-  unfolding moved_bytes bytes
-  moved-put m2 p2 =
-      let front : take count_at m1 ≡ take venue_size bs ++ u32 (u32_at bs done_at + 1) = ap (take count_at) p1 ∙ pasted-to bs (u32 (u32_at bs done_at + 1)) done_at (omega arith) in
-      let after : drop (places_at + place_size) m1 ≡ drop (places_at + place_size) bs =
-      sym (drop-drop (1 + place_size) count_at m1) ∙ ap (drop (1 + place_size)) tail-same ∙ drop-drop (1 + place_size) count_at bs in
-      p2 ∙ ap₂ (λ (y z : List ℕ). y ++ u8 (u8_at m1 count_at - 1) ++ z ++ replicate place_size 0) front after
-      ∙ ap (λ (k : ℕ). take venue_size bs ++ u32 (u32_at bs done_at + 1) ++ u8 (k - 1) ++ drop (places_at + place_size) bs ++ replicate place_size 0) count_same
+  rest-same : drop venue_size m1 ≡ drop venue_size bs
+  rest-same = ap (drop venue_size) p1 ∙ drop_at x (drop venue_size bs) venue_size front-size
+
+  pub done-same : u32_at m1 done_at ≡ u32_at bs done_at
+  done-same = u32-here done_at m1 ∙ ap (λ (y : List ℕ). u32_at y 0) rest-same ∙ sym (u32-here done_at bs)
+
+  module _ (m2 : List ℕ) (p2 : m2 ≡ pasted m1 done_at (u32 (u32_at m1 done_at + 1))) where
+    tail-same : drop count_at m2 ≡ drop count_at bs
+    unfolding bytes
+    tail-same =
+        ap (drop count_at) p2 ∙ pasted_above m1 (u32 (u32_at m1 done_at + 1)) done_at (omega arith)
+        ∙ sym (drop-drop 4 venue_size m1) ∙ ap (drop 4) rest-same ∙ drop-drop 4 venue_size bs
+
+    pub count_same : u8_at m2 count_at ≡ u8_at bs count_at
+    count_same =
+        let z : count_at + 0 ≡ count_at = omega arith in
+        ap (u8_at m2) (sym z) ∙ sym (u8-drop count_at m2 0) ∙ ap (λ (y : List ℕ). u8_at y 0) tail-same ∙ u8-drop count_at bs 0 ∙ ap (u8_at bs) z
+
+    pub advanced-put : (m3 : List ℕ) → m3 ≡ take count_at m2 ++ u8 (u8_at m2 count_at - 1) ++ drop (places_at + place_size) m2 ++ replicate place_size 0 → m3 ≡ advanced_bytes bs number v
+    unfolding advanced_bytes bytes
+    advanced-put m3 p3 =
+        let w : List ℕ = u32 (u32_at m1 done_at + 1) in
+        let front : take count_at m2 ≡ x ++ u32 (u32_at bs done_at + 1) =
+        ap (take count_at) p2 ∙ pasted-to m1 w done_at (omega arith)
+        ∙ ap₂ (λ (y : List ℕ) (k : ℕ). y ++ u32 (k + 1)) (ap (take done_at) p1 ∙ take_at x (drop venue_size bs) done_at front-size) done-same in
+        let after : drop (places_at + place_size) m2 ≡ drop (places_at + place_size) bs =
+        sym (drop-drop (1 + place_size) count_at m2) ∙ ap (drop (1 + place_size)) tail-same ∙ drop-drop (1 + place_size) count_at bs in
+        p3 ∙ ap₂ (λ (y z : List ℕ). y ++ u8 (u8_at m2 count_at - 1) ++ z ++ replicate place_size 0) front after
+        ∙ ap (λ (k : ℕ). x ++ u32 (u32_at bs done_at + 1) ++ u8 (k - 1) ++ drop (places_at + place_size) bs ++ replicate place_size 0) count_same
 
 -- The call with the head ----------------------------------------------------------------------
 
--- a lane with other bytes for its venue
-module _ (bs x : List ℕ) (venue : length x ≡ venue_size) where
-  rest-same : drop venue_size (x ++ drop venue_size bs) ≡ drop venue_size bs
-  rest-same = drop_at x (drop venue_size bs) venue_size venue
-
-  pub done-kept : u32_at (x ++ drop venue_size bs) done_at ≡ u32_at bs done_at
-  done-kept = u32-here done_at (x ++ drop venue_size bs) ∙ ap (λ (y : List ℕ). u32_at y 0) rest-same ∙ sym (u32-here done_at bs)
-
-  rest_from : (k : ℕ) → drop (venue_size + k) (x ++ drop venue_size bs) ≡ drop (venue_size + k) bs
-  rest_from k = sym (drop-drop k venue_size (x ++ drop venue_size bs)) ∙ ap (drop k) rest-same ∙ drop-drop k venue_size bs
-
-  pub count_kept : u8_at (x ++ drop venue_size bs) count_at ≡ u8_at bs count_at
-  count_kept = u8-same count_at (x ++ drop venue_size bs) bs (rest_from 4)
-
-  pub moved-kept : moved_bytes (x ++ drop venue_size bs) (take venue_size (x ++ drop venue_size bs)) ≡ moved_bytes bs x
-  unfolding moved_bytes
-  moved-kept =
-      ap₂ (λ (y z : List ℕ). y ++ u32 (u32_at (x ++ drop venue_size bs) done_at + 1) ++ u8 (u8_at (x ++ drop venue_size bs) count_at - 1) ++ z ++ replicate place_size 0)
-      (take_at x (drop venue_size bs) venue_size venue) (rest_from (5 + place_size))
-      ∙ ap₂ (λ (d c : ℕ). x ++ u32 (d + 1) ++ u8 (c - 1) ++ drop (places_at + place_size) bs ++ replicate place_size 0) done-kept count_kept
-
--- the message at the head, copied
-pub head-copied : (bs w m : List ℕ) (end n k : ℕ) → length w ≡ 32 → n ≡ u8_at bs places_at → n ≤ 32 → places_at + 1 + n ≤ length bs → k ≡ n →
-    seen m end ≡ seen w 0 plus take k (drop (places_at + 1) bs) → take n m ≡ place_from bs 0
-head-copied bs w m end n k wide e short long f q =
-    let part : List ℕ = take k (drop (places_at + 1) bs) in
-    let size : length part ≡ n = part_length bs (places_at + 1) k (omega arith) ∙ f in
-    let z : n ≡ 0 + length part = omega arith in
-    ap₂ take z (put_in w m part 0 end q (omega arith)).0 ∙ pasted-to w part 0 (omega arith) ∙ head-lent bs n k e long f
+pub called-head : (bs m z : List ℕ) (room n : ℕ) (v : Venue) (r : Returned) → v ≡ venue_from (take venue_size bs) → n ≡ u32_at bs done_at → m ≡ place_from bs 0 →
+    call_of r z ≡ one v n room m → call_of r z ≡ head_called bs room
+unfolding head_called
+called-head bs m z room n v r p q e c = c ∙ ap₂ (λ (x : Venue) (y : ℕ). one x y room m) p q ∙ ap (one (venue_from (take venue_size bs)) (u32_at bs done_at) room) e
 
 -- A fresh layer -------------------------------------------------------------------------------
 

@@ -5,15 +5,14 @@ use mathlib.Core.List.{List, [], ◌++◌}
 use Prim.Native.Nat.{ℕ, ◌+◌, ◌-◌, ◌*◌, ◌≤◌, ◌<◌}
 use native.Mathlib.Omega.{arith}
 use lib.Dec.{leb}
-use lib.ListN.{length, get_or, take, drop, replicate, length-append, length-drop, length-replicate, get_or-replicate, get_or-append}
-use lib.Seq.{ext_get_or, get_or-append-add, get_or-take, get_or-drop, drop-drop}
+use lib.ListN.{length, get_or, take, drop, replicate, length-append, length-replicate, get_or-append}
+use lib.Seq.{ext_get_or, get_or-append-add, get_or-take, get_or-drop}
 use borrow.Author.Tests.{leb-true}
 use Rattle.rules.specs.Base.{all}
 use Rattle.rules.specs.Bytes.{u8_at, u8, bytes}
 use Rattle.rules.proofs.Arranging.{all-at}
 use Rattle.rules.proofs.Reading.{byte}
 use Rattle.rules.proofs.Tests.{and_r}
-use Rattle.wire.proofs.Numbers.{u8-drop}
 use Rattle.places.specs.Layout.{upto}
 use Rattle.places.proofs.Tables.{upto-length, upto-at, upto-same}
 use Rattle.layer.specs.Layer.{wait_sound}
@@ -50,24 +49,18 @@ waits-short bs i s h =
     ∙ all-at (λ (x : List ℕ). leb (length x) 32) [] w mathlib.Core.Path.refl (and_r (leb (length w) 8) (all (λ (x : List ℕ). leb (length x) 32) w) s) i in
     omega (arith, leb-true (length (place_from bs i)) 32 t, place-length bs i)
 
--- the message at the front of s, which stands after its length
-pub message-here : (s : List ℕ) (n : ℕ) → n ≡ u8_at s 0 → 1 + n ≤ length s → take n (drop 1 s) ≡ message_from s
-unfolding u8_at
-message-here s n e h =
-    sym (message-read s (take n (drop 1 s)) (sym e ∙ sym size)
-    (λ i j. ap (λ (p : ℕ). get_or s p 0) (next i) ∙ sym (get_or-drop 1 s i 0) ∙ sym (get_or-take n (drop 1 s) i 0 (omega (arith, size)))))
-  where
-    size : length (take n (drop 1 s)) ≡ n
-    size = part_length s 1 n h
-
-    next : (i : ℕ) → i + 1 ≡ 1 + i
-    next i = omega arith
-
--- the message at the head, as a call gets it
+-- the message at the head, as it is lent to a call
 pub head-lent : (bs : List ℕ) (n k : ℕ) → n ≡ u8_at bs places_at → places_at + 1 + n ≤ length bs → k ≡ n → take k (drop (places_at + 1) bs) ≡ place_from bs 0
-unfolding place_from
+unfolding place_from u8_at
 head-lent bs n k e h f =
-    ap (take k) (sym (drop-drop 1 places_at bs)) ∙ message-here (drop places_at bs) k (f ∙ e ∙ sym (u8-drop places_at bs 0)) (omega (arith, length-drop places_at bs))
+    sym (message-read (drop places_at bs) (take k (drop (places_at + 1) bs)) (get_or-drop places_at bs 0 0 ∙ sym e ∙ sym f ∙ sym size)
+    (λ i j. get_or-drop places_at bs (i + 1) 0 ∙ ap (λ (p : ℕ). get_or bs p 0) (next i) ∙ sym (get_or-drop (places_at + 1) bs i 0) ∙ sym (get_or-take k (drop (places_at + 1) bs) i 0 (omega (arith, size)))))
+  where
+    size : length (take k (drop (places_at + 1) bs)) ≡ k
+    size = part_length bs (places_at + 1) k (omega arith)
+
+    next : (i : ℕ) → places_at + (i + 1) ≡ places_at + 1 + i
+    next i = omega arith
 
 -- Written -------------------------------------------------------------------------------------
 
@@ -86,12 +79,3 @@ module _ (m : List ℕ) (short : length m ≤ 32) where
   place_byte i h =
       get_or-append (u8 (length m) ++ m) (replicate (32 - length m) 0) 0 (1 + i) (omega (arith, length-append (u8 (length m)) m))
       ∙ get_or-append-add (u8 (length m)) m i 0
-
-  -- and zeros after it
-  pub place_after : (k : ℕ) → length m < k → k ≤ 32 → get_or (place_bytes m) k 0 ≡ 0
-  unfolding place_bytes bytes
-  place_after k h g =
-      let n : length (u8 (length m) ++ m) ≡ 1 + length m = length-append (u8 (length m)) m in
-      let e : k ≡ length (u8 (length m) ++ m) + (k - (1 + length m)) = omega arith in
-      ap (λ (i : ℕ). get_or (place_bytes m) i 0) e ∙ get_or-append-add (u8 (length m) ++ m) (replicate (32 - length m) 0) (k - (1 + length m)) 0
-      ∙ get_or-replicate (32 - length m) (k - (1 + length m)) 0 0 (omega arith)

@@ -1,11 +1,10 @@
 -- A message put at the end of a lane's wait.
-use mathlib.Core.Path.{◌≡◌, sym, ap, ap₂, subst, ◌∙◌}
+use mathlib.Core.Path.{◌≡◌, sym, ap, ap₂, ◌∙◌}
 use mathlib.Core.Bool.{true}
 use mathlib.Core.Logic.{◌≢◌}
 use mathlib.Core.List.{List, [], ◌∷◌, ◌++◌}
 use Prim.Native.Nat.{ℕ, ◌+◌, ◌*◌, ◌≤◌, ◌<◌}
 use native.Mathlib.Omega.{arith}
-use native.Mathlib.Decide.{dec_lt}
 use native.Mathlib.Numerals.{add-one}
 use lib.ListN.{length, get_or, take, drop, length-set}
 use lib.Seq.{get_or-set_same, get_or-set_other}
@@ -18,9 +17,8 @@ use Rattle.places.proofs.Tables.{upto-more, upto-same}
 use Rattle.venue_bytes.specs.Held.{venue_size, venue_from}
 use Rattle.layer.specs.Layer.{Lane, wait_sound, joins}
 use Rattle.lanes.specs.Memory.{done_at, count_at, places_at, place_size, lane_size, place_from, lane_from, place_bytes, joined_bytes}
-use Rattle.lanes.specs.Canonical.{CanonicalLane}
-use Rattle.lanes.proofs.Bytes.{byte-below, byte-in, byte_above, same-part}
-use Rattle.lanes.proofs.Places.{message-same, message-read, waits-short, place-size, place-first, place_byte, place_after}
+use Rattle.lanes.proofs.Bytes.{byte-below, byte-in, same-part}
+use Rattle.lanes.proofs.Places.{message-same, message-read, waits-short, place-size, place-first, place_byte}
 
 pub lane-eq : (c d : Lane) → c.venue ≡ d.venue → c.done ≡ d.done → c.wait ≡ d.wait → c ≡ d
 lane-eq c d p q r = rw (p, q, r)
@@ -49,12 +47,6 @@ module _ (bs msg : List ℕ) (size : length bs ≡ lane_size) (few : u8_at bs co
   here k h =
       get_or-set_other (pasted bs at (place_bytes msg)) count_at (at + k) (n + 1) 0 (λ e. omega arith)
       ∙ byte-in bs (place_bytes msg) at (omega arith) k (omega (arith, place-size msg short))
-
-  above : (k : ℕ) → at + place_size ≤ k → get_or (joined_bytes bs msg) k 0 ≡ get_or bs k 0
-  unfolding joined_bytes
-  above k h =
-      get_or-set_other (pasted bs at (place_bytes msg)) count_at k (n + 1) 0 (λ e. omega arith)
-      ∙ byte_above bs (place_bytes msg) at (omega arith) k (omega (arith, place-size msg short))
 
   counted : u8_at (joined_bytes bs msg) count_at ≡ n + 1
   unfolding joined_bytes u8_at
@@ -98,43 +90,3 @@ module _ (bs msg : List ℕ) (size : length bs ≡ lane_size) (few : u8_at bs co
     pub lane-joined : lane_from (joined_bytes bs msg) ≡ joins msg (lane_from bs)
     unfolding lane_from joins
     lane-joined = lane-eq _ _ (ap venue_from venue-same) done-same wait-new
-
-  -- what is not read stays zero
-  module _ (c : CanonicalLane bs) where
-    old : (k : ℕ) → places_at ≤ k → k < at → u8_at (joined_bytes bs msg) k ≡ u8_at bs k
-    unfolding u8_at
-    old k g h = below k h (λ e. omega arith)
-
-    new : (k : ℕ) → k < place_size → u8_at (joined_bytes bs msg) (at + k) ≡ get_or (place_bytes msg) k 0
-    unfolding u8_at
-    new k h = here k h
-
-    first : u8_at (joined_bytes bs msg) at ≡ length msg
-    first = let z : at ≡ at + 0 = omega arith in ap (u8_at (joined_bytes bs msg)) z ∙ new 0 (omega arith) ∙ place-first msg short
-
-    -- the message's own place
-    short-last : (i : ℕ) → i ≡ n → u8_at (joined_bytes bs msg) (place_size * i + places_at) ≤ 32
-    short-last i e = subst (λ (j : ℕ). u8_at (joined_bytes bs msg) (place_size * j + places_at) ≤ 32) (sym e) (omega (arith, first))
-
-    after_last : (i k : ℕ) → i ≡ n → u8_at (joined_bytes bs msg) (place_size * i + places_at) < k → k ≤ 32 → u8_at (joined_bytes bs msg) (place_size * i + places_at + k) ≡ 0
-    after_last i k e = subst
-        (λ (j : ℕ). u8_at (joined_bytes bs msg) (place_size * j + places_at) < k → k ≤ 32 → u8_at (joined_bytes bs msg) (place_size * j + places_at + k) ≡ 0)
-        (sym e) (λ h g. new k (omega arith) ∙ place_after msg short k (omega (arith, first)) g)
-
-    free-above : (k : ℕ) → at + place_size ≤ k → u8_at (joined_bytes bs msg) k ≡ 0
-    unfolding u8_at
-    free-above k h = above k h ∙ c.free k (omega arith)
-
-    pub joined-canonical : CanonicalLane (joined_bytes bs msg)
-    joined-canonical = record {
-      few = omega (arith, counted);
-      short = λ i h. elim (dec_lt i n) [
-        | yes p ↦ omega (arith, c.short i p, old (place_size * i + places_at) (omega arith) (omega arith))
-        | no p ↦ short-last i (omega (arith, counted))
-      ];
-      after = λ i k h g l. elim (dec_lt i n) [
-        | yes p ↦ old (place_size * i + places_at + k) (omega arith) (omega arith) ∙ c.after i k p (omega (arith, old (place_size * i + places_at) (omega arith) (omega arith))) l
-        | no p ↦ after_last i k (omega (arith, counted)) g l
-      ];
-      free = λ k h. free-above k (omega (arith, counted));
-    }

@@ -1,8 +1,8 @@
--- What is checked of the layer before a call that checks one venue itself, so that no venue is checked twice.
+-- What is asked of the layer before a call that asks after one venue itself, so that no venue is checked twice.
 use Rattle.std.specs.Prelude.{Bool, not, ◌&&◌, ◌||◌, ℕ, eqb, leb}
 use Rattle.layer.specs.Layer.{Lane, Layer, lane_at, gets_nine, wait_sound}
 
--- the figures of lane v are in range, and a call on its venue does not answer 9, unless v is `but`
+-- the figures of lane v are in range, and its venue gets no 9 unless it is `but`
 unfoldable pub lane_sound_but : (but v : ℕ) → Lane → Bool
 lane_sound_but but v c = wait_sound c.wait && (eqb v but || not (gets_nine c))
 

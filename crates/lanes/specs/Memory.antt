@@ -1,4 +1,4 @@
--- The layer in a host's memory: four lanes one after another, and then the venue served last u8. Each number is as in a message, little-endian.
+-- The layer in lent memory: four lanes one after another, and then the venue served last u8. Each number is as in a message, little-endian.
 --
 --   of a lane, from
 --           0   the venue, as a host holds one (crate venue_bytes)
@@ -75,11 +75,11 @@ layer_bytes l = rows lane_bytes l.lanes ++ u8 l.last
 
 -- What a call writes --------------------------------------------------------------------------
 
--- the layer with these bytes for lane v
+-- lane v anew
 unfoldable pub with_part : List ℕ → (venue : ℕ) → List ℕ → List ℕ
 with_part m v bs = pasted m (lane_size * v) bs
 
--- a lane with one more message: in the first free place, and counted
+-- a lane with a message more: in the first free place, and counted
 unfoldable pub joined_bytes : (lane message : List ℕ) → List ℕ
 joined_bytes bs m = set (pasted bs (place_size * u8_at bs count_at + places_at) (place_bytes m)) count_at (u8_at bs count_at + 1)
 
@@ -87,14 +87,11 @@ joined_bytes bs m = set (pasted bs (place_size * u8_at bs count_at + places_at) 
 unfoldable pub head_called : (lane : List ℕ) (room : ℕ) → Call
 head_called bs room = one (venue_from (take venue_size bs)) (u32_at bs done_at) room (place_from bs 0)
 
--- the venue's bytes after a call that ended with this number and venue: this venue's where the message was accepted, else as they were
+-- the venue's bytes after a call that ended with this number and venue: anew where the message was accepted
 unfoldable pub venue_part : (lane : List ℕ) (number : ℕ) (venue : Venue) → List ℕ
 venue_part bs number v = if eqb number 0 then venue_bytes v else take venue_size bs
 
--- a lane without the head of its wait, with these bytes for its venue: one more message done, one fewer waiting, each place one place down, the last place free
-unfoldable pub moved_bytes : (lane venue : List ℕ) → List ℕ
-moved_bytes bs venue = venue ++ u32 (u32_at bs done_at + 1) ++ u8 (u8_at bs count_at - 1) ++ drop (places_at + place_size) bs ++ replicate place_size 0
-
--- a lane whose head that call has done
+-- a lane whose head that call has done: one message more done, one fewer waiting, each place one place down, and the last one free
 unfoldable pub advanced_bytes : (lane : List ℕ) (number : ℕ) (venue : Venue) → List ℕ
-advanced_bytes bs number v = moved_bytes bs (venue_part bs number v)
+advanced_bytes bs number v =
+    venue_part bs number v ++ u32 (u32_at bs done_at + 1) ++ u8 (u8_at bs count_at - 1) ++ drop (places_at + place_size) bs ++ replicate place_size 0

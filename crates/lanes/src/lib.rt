@@ -1,19 +1,21 @@
-// The layer of four venues in a host's memory (specs/Memory.antt): checks it, adds a message to a lane, and moves a lane on.
+// The layer of four venues in lent memory (specs/Memory.antt), lane by lane: checked, joined, and moved on.
 ghost use Rattle.std.specs.Prelude.{◌≡◌, ◌++◌, ◌+◌, ◌-◌, length, take, drop, replicate};
 ghost use Rattle.rules.specs.Bytes.{u8_at, u32_at, u8, u32};
 ghost use Rattle.records.specs.Seen.{pasted};
 ghost use Rattle.venue_bytes.specs.Held.{venue_size};
 ghost use Rattle.layer.specs.Layer.{fresh_lane, wait_sound, next};
-ghost use Rattle.lanes.specs.Memory.{done_at, count_at, places_at, place_size, lane_size, layer_size, lane_from, layer_from, place_bytes, lane_bytes, joined_bytes, moved_bytes};
+ghost use Rattle.lanes.specs.Memory.{done_at, count_at, places_at, place_size, lane_size, layer_size, lane_from, layer_from, place_bytes, lane_bytes, joined_bytes, venue_part, advanced_bytes};
 ghost use Rattle.lanes.specs.Checks.{lane_sound_but, layer_sound_but};
 ghost use Rattle.lanes.specs.Requirements.{DoneReady, WaitingReady, AdvanceReady, JoinReady, PlaceFor};
 
-// The length of a venue as bytes (crate venue_bytes), and as the numbers (crate places) that the check loads it into.
+use rules::Venue;
+
+// A venue's bytes, as crate venue_bytes has them, and the numbers that it is laid out in to be checked, as crate places has them.
 pub const VENUE: usize = venue_bytes::VENUE_SIZE;
 
 const NUMBERS: usize = places::SIZE;
 
-// From these lengths: where the parts of a lane begin (specs/Memory.antt), the length of a lane, where the venue served last stands, and the length of a layer.
+// What follows from them: where the parts of a lane begin (specs/Memory.antt), and the last byte.
 pub const DONE: usize = VENUE;
 
 pub const COUNT: usize = VENUE + 4;
@@ -36,7 +38,7 @@ pub const LAYER: usize = LAST + 1;
 
 // Is the layer sound? -------------------------------------------------------------------------
 
-// At most 8 messages wait in a lane, each of at most 32 bytes.
+// How many messages wait in a lane, and how long each is, are in their ranges.
 fn wait_sound(lane: &[u8]) -> bool
     ensures { result ≡ wait_sound (lane_from lane.now).wait }
 {
@@ -55,7 +57,7 @@ fn wait_sound(lane: &[u8]) -> bool
     true
 }
 
-// The same for lane `v`, and a call on its venue does not answer 9. The function does not check the venue `but`.
+// The same of lane `v`, and its venue gets no 9 unless it is `but`.
 fn lane_sound(lane: &[u8], v: usize, but: usize) -> bool
     requires { length lane.now ≡ lane_size }
     ensures { result ≡ lane_sound_but but v (lane_from lane.now) }
@@ -66,13 +68,14 @@ fn lane_sound(lane: &[u8], v: usize, but: usize) -> bool
     if v == but {
         return true;
     }
+    let end = VENUE;
+    let venue = venue_bytes::venue_from(&lane[..end]);
     let before = wire::u32_at(lane, DONE);
     let mut numbers = [0u32; NUMBERS];
-    let end = VENUE;
-    soundness::load_bytes_ready(&mut numbers, &lane[..end], before)
+    soundness::load_ready(&mut numbers, venue, before)
 }
 
-// No figure of the layer is out of range, and a call on a venue other than `but` does not answer 9. With `but` 4 this holds for all four venues.
+// No figure of the layer is out of range, and no venue but one gets 9; with 4, none.
 pub fn layer_sound(layer: &[u8], but: usize) -> bool
     requires { length layer.now ≡ layer_size }
     ensures { result ≡ layer_sound_but but (layer_from layer.now) }
@@ -94,7 +97,7 @@ pub fn layer_sound(layer: &[u8], but: usize) -> bool
 
 // A fresh layer -------------------------------------------------------------------------------
 
-// Writes the bytes of a lane with a fresh venue and no message waiting.
+// The bytes of a lane of a fresh venue, with no message waiting.
 pub fn fresh_lane(lane: &mut [u8])
     requires { length lane.old ≡ lane_size }
     ensures { lane.new ≡ lane_bytes fresh_lane }
@@ -107,7 +110,7 @@ pub fn fresh_lane(lane: &mut [u8])
 
 // A message arrives ---------------------------------------------------------------------------
 
-// Writes a message into a place: its length, its bytes, then zeros.
+// A message in a place of its own, and zeros after it.
 fn put_place(place: &mut [u8], message: &[u8])
     requires { PlaceFor place.old message.now }
     ensures { place.new ≡ place_bytes message.now }
@@ -117,7 +120,7 @@ fn put_place(place: &mut [u8], message: &[u8])
     records::zero_from(place, end);
 }
 
-// Puts a message at the end of a lane's wait.
+// A message at the end of a lane's wait.
 pub fn join(lane: &mut [u8], message: &[u8])
     requires { JoinReady lane.old message.now }
     ensures { lane.new ≡ joined_bytes lane.old message.now }
@@ -148,7 +151,19 @@ pub fn next_waiting(layer: &[u8]) -> usize
     4
 }
 
-// Counts one more message done.
+// The venue after its message: its bytes are written where the message was accepted.
+fn put_after(lane: &mut [u8], number: u8, venue: Venue)
+    requires { length lane.old ≡ lane_size }
+    ensures { lane.new ≡ venue_part lane.old number venue ++ drop venue_size lane.old }
+{
+    if number != 0 {
+        return;
+    }
+    let end = VENUE;
+    venue_writer::put_venue(&mut lane[..end], venue);
+}
+
+// One message more done.
 fn count_done(lane: &mut [u8])
     requires { DoneReady lane.old }
     ensures { lane.new ≡ pasted lane.old done_at (u32 (u32_at lane.old done_at + 1)) }
@@ -158,7 +173,7 @@ fn count_done(lane: &mut [u8])
     records::put(lane, DONE, &done);
 }
 
-// Removes the head of the wait: each message moves one place down, and the last place is free.
+// The wait without its head: each place one place down, and the last one free.
 fn drop_head(lane: &mut [u8])
     requires { WaitingReady lane.old }
     ensures { lane.new ≡ take count_at lane.old ++ u8 (u8_at lane.old count_at - 1) ++ drop (places_at + place_size) lane.old ++ replicate place_size 0 }
@@ -173,11 +188,12 @@ fn drop_head(lane: &mut [u8])
     lane[COUNT] = count - 1;
 }
 
-// Moves a lane on after a call has done the message at its head. The venue's bytes stay as that call left them.
-pub fn advance(lane: &mut [u8])
+// A lane whose head a call has done.
+pub fn advance(lane: &mut [u8], number: u8, venue: Venue)
     requires { AdvanceReady lane.old }
-    ensures { lane.new ≡ moved_bytes lane.old (take venue_size lane.old) }
+    ensures { lane.new ≡ advanced_bytes lane.old number venue }
 {
+    put_after(lane, number, venue);
     count_done(lane);
     drop_head(lane);
 }

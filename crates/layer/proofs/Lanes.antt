@@ -15,7 +15,7 @@ use Rattle.rules.proofs.Arranging.{all-at, all_in}
 use Rattle.rules.proofs.Tests.{and_l, and_r}
 use Rattle.layer.specs.Layer.{Lane, Layer, fresh_lane, lane_at, lane_sound, layer_sound, waiting, first_waiting, next, head}
 
--- A new lane ----------------------------------------------------------------------------------
+-- A lane anew ---------------------------------------------------------------------------------
 
 pub lane-same : (l : Layer) (v last : ℕ) (c : Lane) → v < length l.lanes → lane_at (record { lanes = set l.lanes v c; last = last }) v ≡ c
 unfolding lane_at
@@ -25,7 +25,7 @@ pub lane-other : (l : Layer) (v w last : ℕ) (c : Lane) → w ≢ v → lane_at
 unfolding lane_at
 lane-other l v w last c h = get_or-set_other l.lanes v w c fresh_lane h
 
--- what each lane keeps where one is replaced
+-- what each lane keeps where one is put anew
 pub each_set : (P : Lane → Type 0) (l : Layer) (v last : ℕ) (c : Lane) → v < length l.lanes → P c → ((w : ℕ) → P (lane_at l w)) → (w : ℕ) →
     P (lane_at (record { lanes = set l.lanes v c; last = last }) w)
 each_set P l v last c h p each w =

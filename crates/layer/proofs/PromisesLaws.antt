@@ -1,4 +1,4 @@
--- The layer stays sound under every call, no call on one that came from the calls answers 9, and what is refused changes nothing.
+-- The layer stays sound under every call, no call upon one that came from the calls answers 9, and what is refused changes nothing.
 use mathlib.Core.Path.{◌≡◌, refl, sym, ap, ◌∙◌}
 use mathlib.Core.Bool.{Bool, true, false, not, ◌&&◌, ◌||◌, true≢false}
 use mathlib.Core.Logic.{◌≢◌, ◌⊎◌, inl, inr, ⊎_elim}
@@ -107,7 +107,7 @@ fresh-layer = record {
 
 -- Kept ----------------------------------------------------------------------------------------
 
--- a new lane that is sound and shaped, in a sound layer
+-- a lane anew that is sound and shaped, in a sound layer
 sound-set : (l : Layer) (v last : ℕ) (c : Lane) → SoundLayer l → v < 4 → last < 4 → lane_sound c ≡ true → Shaped c.venue →
     SoundLayer (record { lanes = set l.lanes v c; last = last })
 sound-set l v last c s h k a b =

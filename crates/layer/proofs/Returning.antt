@@ -17,7 +17,7 @@ zeros : (room : ℕ) → sheet room [] ≡ replicate room 0
 unfolding sheet encode_all
 zeros room = let z : room - 0 ≡ room = omega arith in rw z
 
--- the call on the venue next in turn, where that is v
+-- the call upon the venue next in turn, where that is v
 served-next : (l : Layer) (room v : ℕ) → next l ≢ 4 → next l ≡ v → ServedAt l room v (serve l (next l) (head_call (lane_at l (next l)) room))
 unfolding serve head_call
 served-next l room v n e = record {

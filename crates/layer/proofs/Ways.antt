@@ -24,7 +24,7 @@ use Rattle.layer.specs.Layer.{Layer, Turned, Arrived, lane_at, with_lane, layer_
 
 -- A one-message call --------------------------------------------------------------------------
 
--- a call on the venue, so many messages having gone before, gets no 9
+-- a call upon the venue, so many messages having gone before, gets no 9
 abbrev pub ready : Venue → (done : ℕ) → Bool
 ready v n = sound v && follows (suc n) v
 

@@ -9,14 +9,12 @@ use Rattle.rules.specs.Calls.{Call, one}
 -- The layer -----------------------------------------------------------------------------------
 
 -- a venue, how many messages it has done, and those that wait for it, in the order in which they came
--- rule: (j)1
 pub record Lane : Type 0 where
   pub venue : Venue
   pub done : ℕ
   pub wait : List (List ℕ)
 
 -- "One process is to run four venues": the lane of each, and the venue served last
--- rule: (j)1
 pub record Layer : Type 0 where
   pub lanes : List Lane
   pub last : ℕ
@@ -36,20 +34,18 @@ with_lane l v c = record { lanes = set l.lanes v c; last = l.last }
 
 -- 9: "the layer given holds a figure out of range or a venue that gets 9" -------------------------
 
--- a one-message call on it gets 9, whatever the message and the report memory: `GetsNine` of Promises. It is unsound, or the number of its next
+-- a one-message call upon it gets 9, whatever the message and the report memory: `GetsNine` of Promises. It is unsound, or the number of its next
 -- message is not above every kept edition's (d) and every generation's (m).
 unfoldable pub gets_nine : Lane → Bool
 gets_nine c = eqb (one c.venue c.done 0 []).returned.number 9
 
 -- "up to 8 waiting messages of at most 32 bytes for each"
--- rule: (j)1
 unfoldable pub wait_sound : List (List ℕ) → Bool
 wait_sound w = leb (length w) 8 && all (λ (m : List ℕ). leb (length m) 32) w
 
 unfoldable pub lane_sound : Lane → Bool
 lane_sound c = wait_sound c.wait && not (gets_nine c)
 
--- rule: (j)6
 unfoldable pub layer_sound : Layer → Bool
 layer_sound l = leb l.last 3 && all lane_sound l.lanes
 
@@ -60,7 +56,6 @@ pub record Arrived : Type 0 where
   pub layer : Layer
 
 -- "17, the wait holds 8 or the message is over 32 bytes; 18, venue number above 3, checked before it; 9 … checked first"
--- rule: (j)6
 unfoldable pub refusal_of : Layer → (venue : ℕ) → (message : List ℕ) → ℕ
 refusal_of l v m =
     if not (layer_sound l) then 9
@@ -73,7 +68,6 @@ unfoldable pub joins : List ℕ → Lane → Lane
 joins m c = record { venue = c.venue; done = c.done; wait = c.wait ++ (m ∷ []) }
 
 -- "Answers, each leaving every wait and venue unchanged"
--- rule: (j)1
 unfoldable pub arrive : Layer → (venue : ℕ) → (message : List ℕ) → Arrived
 arrive l v m =
     let x = refusal_of l v m in
@@ -94,13 +88,11 @@ unfoldable pub waiting : Lane → Bool
 waiting c = not (eqb (length c.wait) 0)
 
 -- of so many venues from one on, going round, the first that has a message waiting; 4 if none has
--- rule: (j)2
 unfoldable pub first_waiting : Layer → (tries from : ℕ) → ℕ
 first_waiting l zero v = 4
 first_waiting l (suc tries) v = if waiting (lane_at l v) then v else first_waiting l tries ((v + 1) % 4)
 
 -- "the next venue after the last one served (at first 3), going round, that has a message waiting"
--- rule: (j)2
 unfoldable pub next : Layer → ℕ
 next l = first_waiting l 4 ((l.last + 1) % 4)
 
@@ -113,12 +105,10 @@ unfoldable pub head_call : Lane → (room : ℕ) → Call
 head_call c room = one c.venue c.done room (head c)
 
 -- "ended by 9 or 10"
--- rule: (j)3
 unfoldable pub ended : Call → Bool
 ended r = eqb r.returned.number 9 || eqb r.returned.number 10
 
 -- "a turn ended by 9 or 10, or with none waiting (number 0), returns 4 for it and changes no wait, venue or last one served"
--- rule: (j)3
 unfoldable pub idle : Layer → (room number : ℕ) → Turned
 idle l room number = record { number = number; done = 0; written = 0; served = 4; layer = l; report = sheet room [] }
 
@@ -136,7 +126,6 @@ serve l v r = record {
   report = r.report;
 }
 
--- rule: (j)2
 unfoldable pub turn : Layer → (room : ℕ) → Turned
 turn l room =
     let v = next l in

@@ -65,7 +65,7 @@ busy n = with_third (record { venue = counted 5 0 fresh_venue; done = n; wait = 
 pub record Witness : Type 0 where
   pub numbered : numbers fresh_layer session ≡ 0 ∷ 0 ∷ 0 ∷ 0 ∷ 18 ∷ 18 ∷ 17 ∷ 0 ∷ 0 ∷ 1 ∷ 10 ∷ 0 ∷ 1 ∷ 1 ∷ 0 ∷ []
   pub served : served_by fresh_layer session ≡ 0 ∷ 1 ∷ 4 ∷ 2 ∷ 3 ∷ 0 ∷ 4 ∷ []
-  -- venue 0 has records of its own messages alone, numbered from 1
+  -- venue 0 tells of its own messages alone, numbered from 1
   pub told : told_by 0 fresh_layer session ≡ answer 1 0 0 0 ∷ answer 2 1 0 0 ∷ []
   pub counts : (lane_at (after_all fresh_layer session) 0).done ≡ 2
   pub full : numbers fresh_layer eight ≡ 0 ∷ 0 ∷ 0 ∷ 0 ∷ 0 ∷ 0 ∷ 0 ∷ 0 ∷ 17 ∷ []

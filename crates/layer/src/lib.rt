@@ -1,1 +1,1 @@
-// Theorems about the layer of four venues: definitions and statements in specs/, proofs in proofs/. The code is in crates lanes and dispatch.
+// Theorems about the layer of four venues: definitions and statements in specs/, proofs in proofs/. The code is in crate dispatch.

@@ -24,7 +24,7 @@ use Rattle.levels.specs.Grid.{no_level, with_order}
 use Rattle.levels.proofs.Scans.{upto-back, upto-end}
 use Rattle.levels.proofs.LevelWithOrder.{put_in, level-cons, put-size, side-in, level-used}
 
--- The best price of a side, by its orders ------------------------------------------------------
+-- The best price of a side, told by its orders -------------------------------------------------
 
 -- a better price is there
 better-held : (d a b : ℕ) → better d a b ≡ true → held a ≡ true

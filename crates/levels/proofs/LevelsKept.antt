@@ -1,4 +1,4 @@
--- The levels that are kept: made again, and kept right when an order is added or filled.
+-- The levels that are kept: made anew, and kept right when an order is added or filled.
 use mathlib.Core.Path.{◌≡◌, refl, sym, ap, ap₂, subst, ◌∙◌}
 use mathlib.Core.Bool.{true, false, true≢false}
 use mathlib.Core.List.{List, ◌∷◌}
@@ -19,7 +19,7 @@ use Rattle.rules.proofs.Better.{is_false}
 use Rattle.rules.proofs.Sizes.{shows-rests, rests-series, rests-side}
 use Rattle.places.specs.declared.Level.{Level}
 use Rattle.places.specs.Layout.{size, upto, regulars_used, complexes_used, regular_in, regular_key, venue_of, level_of, level_in, none_shows_again, Marked, Right}
-use Rattle.places.specs.Layout.{Beside, SameBeside, LevelPut, Counts, SameCounts, Orderly, Below, Laid, Loaded}
+use Rattle.places.specs.Layout.{Beside, SameBeside, LevelPut, Counts, SameCounts, Orderly, Below, Laid, Loaded, Loadable}
 use Rattle.places.proofs.Parts.{regulars-few, regulars-many, regular-at, regular-past}
 use Rattle.place_writes.proofs.Closed.{regulars-filled, complexes-filled}
 use Rattle.rules.proofs.Filling.{reg, fill-fewer, filled-other, filled-same}
@@ -59,7 +59,7 @@ pub key-few : (b : List ℕ) (i k : ℕ) → k ≡ regular_key (regular_in b i) 
 unfolding regular_key
 key-few b i k e = rw e (place_in (regular_in b i).series (regular_in b i).side (series-in b i (regular_in b i) refl) (side-in b i (regular_in b i) refl))
 
--- All levels again ----------------------------------------------------------------------------
+-- All levels anew -----------------------------------------------------------------------------
 
 -- the levels before n are none
 pub record Zeroing (a b : List ℕ) (n : ℕ) : Type 0 where
@@ -206,7 +206,7 @@ levels-anew a b p s d hs hd =
     ∙ ap (λ (w : Venue). level_of s d w.regular) (sym p.venue)
 
 -- a venue laid, with its levels
-pub loaded-all : (v : Venue) (a b : List ℕ) → Orderly v.regular → Laid v a → LevelsPut (level_by (venue_of a).regular) a b → Loaded v b
+pub loaded-all : (v : Venue) (a b : List ℕ) → Loadable v → Laid v a → LevelsPut (level_by (venue_of a).regular) a b → Loaded v b
 loaded-all v a b k x p = record {
   venue = p.venue ∙ x.venue;
   dense = record {
@@ -214,7 +214,7 @@ loaded-all v a b k x p = record {
     complexes = complexes-filled a b (ap (λ (w : Venue). w.complex) p.venue) p.complexes x.complexes;
     right = record {
       levels = levels-anew a b p;
-      orders = subst (λ (w : Venue). Orderly w.regular) (sym (p.venue ∙ x.venue)) k;
+      orders = subst (λ (w : Venue). Orderly w.regular) (sym (p.venue ∙ x.venue)) k.orders;
       marked = p.marked x.marked;
     };
   };
@@ -360,7 +360,7 @@ module _ (a b : List ℕ) (i k n : ℕ) (o : Regular) (l : Level) (hi : i < regu
     };
   }
 
-  -- the level of its side is written again, as it is now
+  -- the level of its side is put anew, as it is now
   module _ (c : List ℕ) (y : Level) (p : LevelPut n y b c) (ey : Right a → y ≡ level_of o.series o.side (venue_of b).regular) where
     anew : (s d : ℕ) → s < 8 → d < 2 → Right a → Dec (place_of s d ≡ n) → level_in c (place_of s d) ≡ level_of s d (venue_of b).regular
     anew s d f g r (yes e) =

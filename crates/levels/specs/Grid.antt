@@ -13,7 +13,7 @@ use Rattle.places.specs.Layout.{regulars_used, complexes_used, venue_of, level_i
 abbrev pub no_level : Level
 no_level = record { price = 0; size = 0 }
 
--- a level of side d with k more contracts at price p
+-- a level of side d with k contracts more at price p
 unfoldable pub joined_of : (side p k : ℕ) → Level → Level
 joined_of d p k l =
     if eqb p l.price then record { price = p; size = k + l.size }
@@ -55,7 +55,7 @@ pub record LegsIn (c : Complex) : Type 0 where
 abbrev pub taken_in : List (List Level) → Complex → TakenLevels
 taken_in g c = record { first = cell_of g c.series1 (opposite c.side1); second = cell_of g c.series2 (opposite c.side2) }
 
--- what the test of the leg of c at side d of series s reads of the orders
+-- what the test of the leg of c at side d of series s asks of the orders
 abbrev pub sides_in : List (List Level) → Complex → (series side : ℕ) → LegSides
 sides_in g c s d = record { own = (cell_of g s d).price; facing = (cell_of g s (opposite d)).price; taken = taken_in g c }
 
@@ -64,7 +64,7 @@ pub record TakenOf (t : TakenLevels) (c : Complex) (os : List Regular) : Type 0 
   pub first : t.first ≡ level_of c.series1 (opposite c.side1) os
   pub second : t.second ≡ level_of c.series2 (opposite c.side2) os
 
--- x has what the test of the leg of c at side d of series s reads of these orders
+-- x has what the test of the leg of c at side d of series s asks of these orders
 pub record SidesOf (x : LegSides) (c : Complex) (s d : ℕ) (os : List Regular) : Type 0 where
   pub own : x.own ≡ best_in s d os
   pub facing : x.facing ≡ best_in s (opposite d) os

@@ -50,7 +50,7 @@ pub record TakenSeries (b : List ℕ) (t : TakenLevels) (c : Complex) (s : ℕ) 
   pub series : s < 8
   pub figures : Figured b
 
--- what the test of the band requires: x is a net within the bounds of all nets
+-- what the test of the band asks: x is a net within the bounds of all nets
 pub record BandReady (b : List ℕ) (t : TakenLevels) (c : Complex) (x : ℤ) : Type 0 where
   pub whole : length b ≡ size
   pub taken : TakenOf t c (venue_of b).regular
@@ -71,7 +71,7 @@ pub record GridPlaceReady (b : List ℕ) (g : List (List Level)) (n : ℕ) : Typ
   pub place : n < 16
   pub figures : Figured b
 
--- what the test of the leg of c at side d of series s requires
+-- what the test of the leg of c at side d of series s asks
 pub record SidesReady (b : List ℕ) (x : LegSides) (c : Complex) (s d : ℕ) : Type 0 where
   pub whole : length b ≡ size
   pub sides : SidesOf x c s d (venue_of b).regular

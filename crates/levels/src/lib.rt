@@ -1,18 +1,18 @@
-// The levels of the regular orders, a price and a size for each side of a series: how the numbers keep them, and how they are read; and which price is reached.
+// The levels of the regular orders, a price and a size for each side of a series: how they are kept and read; and which price is better, or reached.
 ghost use Rattle.std.specs.Prelude.{◌≡◌, suc, ◌≤◌, length};
 ghost use Rattle.rules.specs.Prices.{better, reaches, best_regular};
 ghost use Rattle.rules.specs.Trading.{fill_regular, put_regular};
 ghost use Rattle.rules.specs.Generation.{reaches_any};
 ghost use Rattle.rules.specs.Standing.{show_again};
-ghost use Rattle.places.specs.Layout.{size, regulars_used, complexes_used, venue_of, level_of, Counts, SameCounts};
+ghost use Rattle.places.specs.Layout.{size, regulars_used, complexes_used, venue_of, level_of, Counts, SameCounts, Loaded};
 ghost use Rattle.levels.specs.Grid.{no_level, with_order, level_by, GridOf, LevelsPut, TakenOf, SidesOf};
 ghost use Rattle.levels.specs.Requirements.{LegsReady, LegSideReady};
-ghost use Rattle.places.specs.Requirements.{RightNumbers, RegularReady, SideReady, RightSide, RightOrder};
+ghost use Rattle.places.specs.Requirements.{RightNumbers, RegularReady, SideReady, RightSide, RightOrder, LoadReady};
 
 use places::Level;
-use rules::{Complex, Regular};
+use rules::{Complex, Regular, Venue};
 
-// A price p of this side reaches q, and q is a price (not 0).
+// A price p of this side reaches a price q that is there.
 pub fn reaches_any(side: u8, p: u32, q: u32) -> bool
     ensures { result ≡ reaches_any side p q }
 {
@@ -24,7 +24,7 @@ pub fn reaches_any(side: u8, p: u32, q: u32) -> bool
 
 // Levels kept ---------------------------------------------------------------------------------
 
-// The level l of the side of order o, with what o shows added.
+// A level of its side, with what the order o shows.
 fn with_order(l: Level, o: Regular) -> Level
     requires { l.size ≤ 549755813760 }
     ensures { result ≡ with_order o l }
@@ -49,7 +49,7 @@ fn with_order(l: Level, o: Regular) -> Level
     l
 }
 
-// The level of one series and side, in one pass over the places in use.
+// The level of one series and side, in one pass over its orders.
 fn level_of(numbers: &[u32], s: u8, d: u8) -> Level
     requires { SideReady numbers.now s d }
     ensures { result ≡ level_of s d (venue_of numbers.now).regular }
@@ -68,7 +68,7 @@ fn level_of(numbers: &[u32], s: u8, d: u8) -> Level
     l
 }
 
-// Sets every level to none.
+// No side has a level.
 fn zero_levels(numbers: &mut [u32])
     requires { length numbers.old ≡ size }
     ensures { LevelsPut (λ _. no_level) numbers.old numbers.new }
@@ -81,8 +81,8 @@ fn zero_levels(numbers: &mut [u32])
     }
 }
 
-// Makes the levels of all series and sides, in one pass over the places in use.
-pub fn make_levels(numbers: &mut [u32])
+// The levels of all series and sides, in one pass over the places in use.
+fn make_levels(numbers: &mut [u32])
     requires { length numbers.old ≡ size }
     ensures { LevelsPut (level_by (venue_of numbers.old).regular) numbers.old numbers.new }
 {
@@ -97,7 +97,16 @@ pub fn make_levels(numbers: &mut [u32])
     }
 }
 
-// Puts an order into the place after those in use, and into its level.
+// A venue's numbers, with its levels.
+pub fn load(numbers: &mut [u32], v: Venue)
+    requires { LoadReady numbers.old v }
+    ensures { Loaded v numbers.new }
+{
+    venue_numbers::load(numbers, v);
+    make_levels(numbers);
+}
+
+// An order is given the place after those in use.
 pub fn add_order(numbers: &mut [u32], o: Regular)
     requires { RightOrder numbers.old o }
     ensures numbers_after { venue_of numbers.new ≡ put_regular (regulars_used numbers.old) o (venue_of numbers.old) }
@@ -109,7 +118,7 @@ pub fn add_order(numbers: &mut [u32], o: Regular)
     place_writes::put_level(numbers, n, with_order(l, o));
 }
 
-// Fills the order at place i for k contracts, first from what it shows, and changes its level.
+// The order at place i is filled for k contracts, what it shows first.
 pub fn fill_order(numbers: &mut [u32], i: usize, k: u32)
     requires { RegularReady numbers.old i }
     ensures numbers_after { venue_of numbers.new ≡ fill_regular i k (venue_of numbers.old) }
@@ -136,7 +145,7 @@ pub fn fill_order(numbers: &mut [u32], i: usize, k: u32)
     place_writes::put_level(numbers, n, anew);
 }
 
-// Each order shows again. Where the show-again flag is 0, each order already shows what it should.
+// Each order shows again. Without the show-again flag each already shows what it should.
 pub fn show_again(numbers: &mut [u32])
     requires { RightNumbers numbers.old }
     ensures numbers_after { venue_of numbers.new ≡ show_again (venue_of numbers.old) }
@@ -160,7 +169,7 @@ pub fn best_regular(numbers: &[u32], s: u8, d: u8) -> u32
     l.price
 }
 
-// The levels of all series and sides, as a grid.
+// The levels of all series and sides, in one pass.
 pub fn levels(numbers: &[u32]) -> [[Level; 2]; 8]
     requires { RightNumbers numbers.now }
     ensures { GridOf result (venue_of numbers.now).regular }
@@ -185,7 +194,7 @@ pub struct TakenLevels {
     pub second: Level,
 }
 
-// What the test of a leg reads of the regular orders: the best price of its own side and of the opposite side, and the levels that its order's legs take.
+// What the test of a leg asks of the regular orders: the best price of its own side and of the side that faces it, and the levels that the legs of its order take.
 #[derive(Drop)]
 pub struct LegSides {
     pub own: u32,
@@ -209,7 +218,7 @@ pub fn taken_at(numbers: &[u32], c: Complex) -> TakenLevels
     TakenLevels { first, second }
 }
 
-// What the test of the leg of c at side d of series s reads of the regular orders.
+// What the test of the leg of c at side d of series s asks of the regular orders.
 pub fn sides_at(numbers: &[u32], c: Complex, s: u8, d: u8) -> LegSides
     requires { LegSideReady numbers.now c s d }
     ensures { SidesOf result c s d (venue_of numbers.now).regular }

@@ -1,4 +1,4 @@
--- A series replaced, and its number in range.
+-- A series anew, and its number in range.
 use mathlib.Core.Path.{◌≡◌, sym, ap, ◌∙◌}
 use mathlib.Core.Bool.{true, ◌&&◌, true≢false}
 use Prim.Native.Nat.{ℕ, zero, suc, ◌<◌}

@@ -1,4 +1,4 @@
-// Away prices, a status, a setting and a sweep: the ranges of the message's fields, its refusals, and what it does.
+// Away prices, a status, a setting and a sweep, each by the fields of its message: their ranges, the refusals, and what it does.
 ghost use Rattle.std.specs.Prelude.{◌≡◌, false, ◌&&◌};
 ghost use Rattle.rules.specs.declared.Message.TheVariants.{Away, Status, Sweep, Increment, Percent, LimitedSweep};
 ghost use Rattle.rules.specs.Words.{within, is_series, is_status, is_away};
@@ -10,29 +10,28 @@ ghost use Rattle.records.specs.Stage.{stage, ◌does◌};
 ghost use Rattle.places.specs.Layout.{venue_of, SameCounts};
 ghost use Rattle.answers.specs.Steps.{answered_by, ranged_by, Steps};
 ghost use Rattle.answers.specs.Requirements.{SoundNumbers};
-ghost use Rattle.places.specs.Requirements.{RightFigure};
-ghost use Rattle.market_messages.specs.Requirements.{StandingSeries};
+ghost use Rattle.places.specs.Requirements.{RightSeries, RightFigure};
 
 use answers::Stepped;
 use rules::{Edition, Listed};
 
 // What an accepted message does -----------------------------------------------------------------
 
-// A series gets its away prices; then settling tests the legging orders whose test reads something of that series.
+// A series' away prices anew; then settling.
 fn set_away(numbers: &mut [u32], s: u8, bid: u32, offer: u32, out: &mut [u8], at: usize) -> usize
-    requires { StandingSeries numbers.old s }
+    requires { RightSeries numbers.old s }
     ensures result_after { stage (venue_of numbers.new) out.new result ≡ seen out.old at does settle (set_away s bid offer (venue_of numbers.old)) }
     ensures counts { SameCounts numbers.old numbers.new }
 {
     let status = prices::status_of(numbers, s);
     let x = Listed { status, bid, offer };
     place_writes::put_listed(numbers, s as usize, x);
-    settling::settle_series(numbers, s, out, at)
+    settling::settle_all(numbers, out, at)
 }
 
-// A series gets its status; then settling tests the legging orders whose test reads something of that series.
+// A series' status anew; then settling.
 fn set_status(numbers: &mut [u32], s: u8, status: u8, out: &mut [u8], at: usize) -> usize
-    requires { StandingSeries numbers.old s }
+    requires { RightSeries numbers.old s }
     ensures result_after { stage (venue_of numbers.new) out.new result ≡ seen out.old at does settle (set_status s status (venue_of numbers.old)) }
     ensures counts { SameCounts numbers.old numbers.new }
 {
@@ -43,10 +42,10 @@ fn set_status(numbers: &mut [u32], s: u8, status: u8, out: &mut [u8], at: usize)
         offer: old.offer,
     };
     place_writes::put_listed(numbers, s as usize, x);
-    settling::settle_series(numbers, s, out, at)
+    settling::settle_all(numbers, out, at)
 }
 
-// The message of this number enters an edition of a figure at the first free place; then settling tests every legging order.
+// A figure's edition, entered by the message of this number at the first free place; then settling.
 fn set_figure(
     numbers: &mut [u32],
     number: u32,

@@ -115,7 +115,7 @@ met-used b s d p j m e = (regular-used _ _ (met-free s d p) b j m (picked-is _ j
 
 -- The loop ------------------------------------------------------------------------------------
 
--- turns on a venue: none left, one that ended, one more
+-- turns upon a venue: none left, one that ended, one more
 module _ (turn : Venue → Turn) (v : Venue) where
   repeat-zero : (f : ℕ) → f ≡ 0 → nothing v ≡ repeat f turn v
   unfolding repeat

@@ -1,4 +1,4 @@
--- What a turn of an entering order does.
+-- What a turn of an incoming order is to do.
 use Rattle.std.specs.Prelude.{ℕ, ◌<◌}
 use Rattle.rules.specs.declared.Venue.{Venue}
 use Rattle.rules.specs.Effects.{Turn, ended, turned}
@@ -6,7 +6,7 @@ use Rattle.rules.specs.Order.{meet, hit}
 use Rattle.matching.specs.declared.Plan.{Plan}
 use Rattle.matching.specs.declared.Plan.TheVariants.{Ended, Hit, Meet}
 
--- the turn of the order at place i that a plan stands for
+-- the turn that a plan is, of the order at place i
 unfoldable pub turn_of : (i : ℕ) → Venue → Plan → Turn
 turn_of i v Ended = ended
 turn_of i v (Hit l k) = turned (hit i l k v)

@@ -1,5 +1,5 @@
-// An entering order: which orders it meets, turn by turn.
-// A contract says in one equation: the venue left and all that is written are those of the definition.
+// An entering order: whom it meets, turn by turn.
+// Each function says in one equation the venue that it leaves and all that it writes: those of its definition.
 ghost use Rattle.std.specs.Prelude.{◌≡◌, suc};
 ghost use Rattle.rules.specs.Words.{opposite, legging_at};
 ghost use Rattle.rules.specs.Effects.{repeat};
@@ -47,7 +47,7 @@ fn legging_first(o: Regular, l: Legging, p: u32) -> bool
     arithmetic::is_better(arithmetic::opposite_of(o.side), own, p)
 }
 
-// The legging order that an order of this side in a series faces.
+// The legging order that one of a side in a series faces.
 fn facing(numbers: &[u32], series: u8, side: u8) -> Legging
     requires { SeriesReady numbers.now series }
     ensures { result ≡ legging_at (venue_of numbers.now) series (opposite side) }
@@ -56,7 +56,7 @@ fn facing(numbers: &[u32], series: u8, side: u8) -> Legging
     places::legging_at(numbers, n)
 }
 
-// How much of the resting order m one turn can trade: what m shows, or its reserve once that is gone.
+// What of the resting order m is traded at once: what it shows; its reserve when that is gone.
 fn at_once(m: Regular) -> u32
     ensures { result ≡ at_once m }
 {
@@ -122,7 +122,7 @@ pub fn meet_all(numbers: &mut [u32], i: usize, quantity: u32, out: &mut [u8], at
     pos
 }
 
-// Puts the order into a place, where it meets the other side. Every place in use is held, so the place after them is the first free one.
+// The order is given a place and meets the other side there. Every place in use is held, so the place after them is the first free one.
 pub fn enter_regular(numbers: &mut [u32], o: Regular, out: &mut [u8], at: usize) -> usize
     requires { DenseOrder numbers.old o }
     ensures result_after { stage (venue_of numbers.new) out.new result ≡ seen out.old at does enter_regular o (venue_of numbers.old) }

@@ -54,7 +54,7 @@ module _ (a : StepOutcome) (b₀ l : List ℕ) (r : Stepped) (b o : List ℕ) (s
         dense = rw e d;
       }
 
--- with room for the most that a message on a sound venue writes
+-- with room for the most that a message upon a sound venue writes
 pub tries-roomy : (v : Venue) (number : ℕ) (m b₀ l : List ℕ) (r : Stepped) (b o : List ℕ) → SoundVenue v → 10433 ≤ length l →
     Steps (step v number m) l r b o → Tries (step v number m) b₀ l r b o
 unfolding seen

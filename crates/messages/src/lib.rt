@@ -1,4 +1,4 @@
-// One message on the venue in its slice, from the message's bytes: refused or accepted, with its answer.
+// One message upon the venue in its slice, from its bytes: refused or accepted, with its answer.
 ghost use Rattle.std.specs.Prelude.{◌≡◌, length};
 ghost use Rattle.rules.specs.Step as step;
 ghost use Rattle.places.specs.Layout.{venue_of};
@@ -125,7 +125,7 @@ fn later_kinds(
     market_messages::limited_step(numbers, number, n, out)
 }
 
-// Does the message at the front of `message`, of this number, by its kind: writes its answer and its records from the start of `out` on.
+// The message at the front of `message`, of this number, taken apart once by its kind: its answer and its records from the start of `out`.
 pub fn step(numbers: &mut [u32], number: u32, message: &[u8], out: &mut [u8]) -> Stepped
     requires { SoundNumbers numbers.old }
     ensures { Steps (step.step (venue_of numbers.old) number message.now) out.old result numbers.new out.new }
@@ -146,7 +146,7 @@ pub fn step(numbers: &mut [u32], number: u32, message: &[u8], out: &mut [u8]) ->
 
 // A message whose records may not fit ------------------------------------------------------------
 
-// Copies all numbers of `from` into `to`.
+// All numbers of `from` in the place of those of `to`.
 fn copy(from: &[u32], to: &mut [u32])
     requires { length to.old ≡ length from.now }
     ensures { to.new ≡ from.now }
@@ -158,7 +158,7 @@ fn copy(from: &[u32], to: &mut [u32])
     }
 }
 
-// A step whose records may not fit: where they do not, the function restores the numbers.
+// A step whose records may not fit: where they do not, the numbers are as they were.
 fn step_or_leave(numbers: &mut [u32], number: u32, message: &[u8], out: &mut [u8]) -> Stepped
     requires { SoundNumbers numbers.old }
     ensures { Tries (step.step (venue_of numbers.old) number message.now) numbers.old out.old result numbers.new out.new }
@@ -173,7 +173,7 @@ fn step_or_leave(numbers: &mut [u32], number: u32, message: &[u8], out: &mut [u8
     r
 }
 
-// The same. With room for 10,433 bytes, the most that a message on a sound venue writes, the function keeps no copy of the numbers.
+// The same; with room for the most that a message upon a sound venue writes, the numbers need not be kept.
 pub fn try_step(numbers: &mut [u32], number: u32, message: &[u8], out: &mut [u8]) -> Stepped
     requires { SoundNumbers numbers.old }
     ensures { Tries (step.step (venue_of numbers.old) number message.now) numbers.old out.old result numbers.new out.new }

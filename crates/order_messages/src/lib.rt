@@ -1,4 +1,4 @@
-// An order, a complex order and a cancel: the ranges of the message's fields, its refusals, and what it does.
+// An order, a complex order and a cancel, each by the fields of its message: their ranges, the refusals, and what it does.
 ghost use Rattle.std.specs.Prelude.{◌≡◌, false, eqb};
 ghost use Rattle.rules.specs.declared.Message.TheVariants.{Order, TwoLeg, Cancel};
 ghost use Rattle.rules.specs.Words.{with_last, is_id};
@@ -10,17 +10,17 @@ ghost use Rattle.records.specs.Stage.{stage, ◌does◌};
 ghost use Rattle.places.specs.Layout.{venue_of, Right};
 ghost use Rattle.answers.specs.Steps.{answered_by, ranged_by, Steps};
 ghost use Rattle.answers.specs.Requirements.{SoundNumbers, SoundOrder, SoundComplex, SoundPair};
-ghost use Rattle.orders.specs.Requirements.{StandingComplex};
-ghost use Rattle.order_messages.specs.Requirements.{EnteringOrder};
+ghost use Rattle.levels.specs.Requirements.{DenseComplex};
+ghost use Rattle.places.specs.Requirements.{InRangeOrder};
 
 use answers::Stepped;
 use rules::{Complex, Regular};
 
 // What an accepted order does -------------------------------------------------------------------
 
-// An order arrives, and its id becomes the last accepted.
+// An order arrives, and its id is the last accepted.
 fn enter_order(numbers: &mut [u32], o: Regular, out: &mut [u8], at: usize) -> usize
-    requires { EnteringOrder numbers.old o }
+    requires { InRangeOrder numbers.old o }
     ensures result_after { stage (venue_of numbers.new) out.new result ≡ seen out.old at does order o (with_last (venue_of numbers.old) o.id) }
     ensures right { Right numbers.new }
 {
@@ -28,9 +28,9 @@ fn enter_order(numbers: &mut [u32], o: Regular, out: &mut [u8], at: usize) -> us
     orders::order(numbers, o, out, at)
 }
 
-// A complex order arrives by the message of this number, and its id becomes the last accepted.
+// A complex order arrives by the message of this number, and its id is the last accepted.
 fn enter_complex(numbers: &mut [u32], number: u32, c: Complex, out: &mut [u8], at: usize) -> usize
-    requires { StandingComplex numbers.old c }
+    requires { DenseComplex numbers.old c }
     ensures result_after { stage (venue_of numbers.new) out.new result ≡ seen out.old at does complex number c (with_last (venue_of numbers.old) c.id) }
     ensures right { Right numbers.new }
 {
@@ -71,7 +71,7 @@ fn complex_step(numbers: &mut [u32], number: u32, c: Complex, out: &mut [u8]) ->
     answers::finish(numbers, number, out, end)
 }
 
-// 2: a complex order whose ratios are 1.
+// 2: a complex order one to one.
 pub fn pair_step(numbers: &mut [u32], number: u32, c: Complex, out: &mut [u8]) -> Stepped
     requires { SoundPair numbers.old c }
     ensures { Steps (ranged_by (venue_of numbers.old) number (two_leg_in_range 200000 c) false (TwoLeg c)) out.old result numbers.new out.new }
@@ -82,7 +82,7 @@ pub fn pair_step(numbers: &mut [u32], number: u32, c: Complex, out: &mut [u8]) -
     complex_step(numbers, number, c, out)
 }
 
-// 10: a complex order with its ratios. Equal ratios are refused with 14.
+// 10: a complex order with its ratios, which differ.
 pub fn ratio_step(numbers: &mut [u32], number: u32, c: Complex, out: &mut [u8]) -> Stepped
     requires { SoundNumbers numbers.old }
     ensures { Steps (ranged_by (venue_of numbers.old) number (two_leg_in_range 600000 c) (eqb c.ratio1 c.ratio2) (TwoLeg c)) out.old result numbers.new out.new }

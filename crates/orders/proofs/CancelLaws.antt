@@ -9,14 +9,13 @@ use lib.ListN.{get_or}
 use Rattle.rules.specs.declared.Venue.{Venue}
 use Rattle.rules.specs.Base.{if◌then◌else◌}
 use Rattle.rules.specs.Words.{no_regular, no_complex, regular_at, complex_at, is_regular_of, is_complex_of}
-use Rattle.rules.specs.Effects.{◌⟫◌}
-use Rattle.rules.specs.Standing.{settle}
-use Rattle.rules.specs.Complex.{cancel_regular, cancel_complex, cancel, regular_place, complex_place, rests_regular, rests_complex}
+use Rattle.rules.specs.Complex.{cancel_regular, cancel_complex, regular_place, complex_place, rests_regular, rests_complex}
 use Rattle.places.specs.Layout.{in_use, regulars_used, complexes_used, regular_in, complex_in, venue_of}
 use Rattle.places.proofs.Tables.{used-free}
 use Rattle.book.specs.declared.Found.TheVariants.{At, Nothing}
 use Rattle.book.specs.Picks.{regular_found, complex_found}
 use Rattle.book.proofs.FirstPlace.{regular-free, complex-free}
+use Rattle.orders.specs.Effects.{withdrawn}
 
 -- what is found, and what is not
 found_at : (t : Bool) (p i : ℕ) → At i ≡ (if t then At p else Nothing) → (t ≡ true) × (p ≡ i)
@@ -66,12 +65,12 @@ module _ (b : List ℕ) (id : ℕ) where
   unfolding complex_found
   complex-not e = found-not (rests_complex (venue_of b) id) (complex_place (venue_of b) id) e
 
--- a cancel with its settling
+-- a cancel, up to its settling
 module _ (id : ℕ) (v : Venue) where
-  pub cancel-regular-law : (i : ℕ) → (rests_regular v id ≡ true) × (regular_place v id ≡ i) → (cancel_regular i v ⟫ settle) ≡ cancel id v
-  unfolding cancel
-  cancel-regular-law i r = rw r.0 (ap (λ (k : ℕ). cancel_regular k v ⟫ settle) (sym r.1))
+  pub withdraw-regular : (i : ℕ) → (rests_regular v id ≡ true) × (regular_place v id ≡ i) → cancel_regular i v ≡ withdrawn id v
+  unfolding withdrawn
+  withdraw-regular i r = rw r.0 (ap (λ (k : ℕ). cancel_regular k v) (sym r.1))
 
-  pub cancel-complex-law : rests_regular v id ≡ false → (cancel_complex (complex_place v id) v ⟫ settle) ≡ cancel id v
-  unfolding cancel
-  cancel-complex-law e = rw e
+  pub withdraw-other : rests_regular v id ≡ false → cancel_complex (complex_place v id) v ≡ withdrawn id v
+  unfolding withdrawn
+  withdraw-other e = rw e

@@ -1,1 +1,1 @@
-pub mod Requirements
+pub mod Effects

@@ -47,7 +47,7 @@ aside-set a b f x lt h = record {
   others = λ k w. get_or-set_other b (2 * f + figures_at) k x 0 (apart f k lt w) ∙ h.others k w;
 }
 
--- a figure replaced
+-- a figure anew
 figure-new : (b : List ℕ) (f x : ℕ) → length b ≡ size → f < 9 → x < 256 → figure_in (set b (2 * f + figures_at) x) f ≡ x
 unfolding figure_in
 figure-new b f x n h w = ap (λ (y : ℕ). y % 256) (get_or-set_same b (2 * f + figures_at) x 0 (omega arith)) ∙ omega arith

@@ -1,4 +1,4 @@
-// Changes of the venue inside a call: each function writes into the numbers of its slice (places' specs/Layout.antt).
+// What changes in the venue inside a call, as stores into the numbers of its slice (places' specs/Layout.antt).
 ghost use Rattle.std.specs.Prelude.{◌≡◌, suc, min, ◌+◌, ◌-◌, ◌*◌, ◌^◌, ◌≤◌, ◌<◌, length, get_or, set};
 ghost use Rattle.std.proofs.lemmas.List.Edits.{sets};
 ghost use Rattle.rules.specs.Words.{place_of, with_series, with_editions, with_generations, with_last, with_reached};
@@ -17,7 +17,7 @@ ghost use Rattle.places.specs.Requirements.{CountedComplexes, RegularRoom, Compl
 use places::Level;
 use rules::{Complex, Edition, Generations, Legging, Listed, Regular};
 
-// Writes the level of a series and side; n is their legging place.
+// A level is kept for a series and side.
 pub fn put_level(numbers: &mut [u32], n: usize, l: Level)
     requires { PlaceReady numbers.old n 16 }
     ensures { LevelPut n l numbers.old numbers.new }
@@ -27,7 +27,7 @@ pub fn put_level(numbers: &mut [u32], n: usize, l: Level)
     numbers[3 * n + places::LEVEL_HIGH_AT] = (l.size / 4294967296) as u32;
 }
 
-// The number at `at` becomes i, unless it is less.
+// The number at a place becomes i, unless it is less.
 fn lower(numbers: &mut [u32], at: usize, i: usize)
     requires { (at < length numbers.old) × (i < 4294967296) }
     ensures { numbers.new ≡ set numbers.old at (min (get_or numbers.old at 0) i) }
@@ -57,7 +57,7 @@ pub fn fill_regular(numbers: &mut [u32], i: usize, k: u32)
     numbers[places::SHOW_AGAIN_AT] = 1;
 }
 
-// The complex order at place i is filled for k units.
+// The complex order at a place is filled by `k` units.
 pub fn fill_complex(numbers: &mut [u32], i: usize, k: u32)
     requires { ComplexReady numbers.old i }
     ensures numbers_after { venue_of numbers.new ≡ fill_complex i k (venue_of numbers.old) }
@@ -78,7 +78,7 @@ fn place_number(series: u8, side: u8) -> u32
     2 * (series as u32) + (side as u32)
 }
 
-// Writes an order's numbers at place i.
+// An order's numbers at place i.
 pub fn write_regular(numbers: &mut [u32], i: usize, o: Regular)
     requires { PlaceReady numbers.old i 128 }
     ensures { numbers.new ≡ regular_put numbers.old i o }
@@ -92,7 +92,7 @@ pub fn write_regular(numbers: &mut [u32], i: usize, o: Regular)
     numbers[2 * i + places::REGULAR_DISPLAY_AT] = o.display;
 }
 
-// Puts an order into the place after those in use. The levels stay as they are.
+// An order is given the place after those in use. The levels stay as they are.
 pub fn add_regular(numbers: &mut [u32], o: Regular)
     requires { RegularRoom numbers.old o }
     ensures numbers_after { venue_of numbers.new ≡ put_regular (regulars_used numbers.old) o (venue_of numbers.old) }
@@ -104,7 +104,7 @@ pub fn add_regular(numbers: &mut [u32], o: Regular)
     lower(numbers, places::REGULARS_KNOWN_AT, n);
 }
 
-// Each order shows again: all of it but its shown quantity becomes reserve. The levels stay as they are.
+// Each order shows again: all but its shown quantity is reserve. The levels stay as they are.
 pub fn show_again(numbers: &mut [u32])
     requires { length numbers.old ≡ size }
     ensures numbers_after { venue_of numbers.new ≡ show_again (venue_of numbers.old) }
@@ -120,14 +120,14 @@ pub fn show_again(numbers: &mut [u32])
     numbers[places::SHOW_AGAIN_AT] = 0;
 }
 
-// A limit as the numbers keep it: 2^31 above its value.
+// A limit's number, as it is kept.
 fn limit_number(x: i32) -> u32
     ensures { result ≡ limit_number x }
 {
     ((x as i64) + 2147483648) as u32
 }
 
-// Writes a complex order's numbers at place i.
+// A complex order's numbers at place i.
 pub fn write_complex(numbers: &mut [u32], i: usize, c: Complex)
     requires { PlaceReady numbers.old i 32 }
     ensures { (numbers.new ≡ sets numbers.old (6 * i + complex_id_at) (complex_row c)) × ComplexBounded c }
@@ -143,7 +143,7 @@ pub fn write_complex(numbers: &mut [u32], i: usize, c: Complex)
     numbers[6 * i + places::COMPLEX_QUANTITY_AT] = c.quantity;
 }
 
-// Puts a complex order into the place after those in use.
+// A complex order is given the place after those in use.
 pub fn add_complex(numbers: &mut [u32], c: Complex)
     requires { ComplexRoom numbers.old c }
     ensures numbers_after { venue_of numbers.new ≡ put_complex (complexes_used numbers.old) c (venue_of numbers.old) }
@@ -166,7 +166,7 @@ fn weight(n: usize, l: Legging) -> u32
     1u32 << (n as u32)
 }
 
-// Writes a legging order at a place, and the mask.
+// A legging order at a place.
 pub fn put_legging(numbers: &mut [u32], n: usize, l: Legging)
     requires { PlaceReady numbers.old n 16 }
     ensures numbers_after { venue_of numbers.new ≡ placed n l (venue_of numbers.old) }
@@ -180,7 +180,7 @@ pub fn put_legging(numbers: &mut [u32], n: usize, l: Legging)
     numbers[3 * n + places::LEGGING_QUANTITY_AT] = l.quantity;
 }
 
-// Writes a series' status and away prices.
+// A series' status and away prices anew.
 pub fn put_listed(numbers: &mut [u32], s: usize, x: Listed)
     requires { SeriesReady numbers.old s }
     ensures numbers_after { venue_of numbers.new ≡ with_series (venue_of numbers.old) (set (venue_of numbers.old).series s x) }
@@ -191,7 +191,7 @@ pub fn put_listed(numbers: &mut [u32], s: usize, x: Listed)
     numbers[3 * s + places::SERIES_OFFER_AT] = x.offer;
 }
 
-// Writes an edition's numbers at place i. The figures stay as they are.
+// An edition's numbers at place i. The figures stay as they are.
 pub fn write_edition(numbers: &mut [u32], i: usize, e: Edition)
     requires { PlaceReady numbers.old i 32 }
     ensures { (numbers.new ≡ sets numbers.old (4 * i + edition_number_at) (edition_row e)) × (e.figure < 256) × (e.value < 256) }
@@ -202,7 +202,7 @@ pub fn write_edition(numbers: &mut [u32], i: usize, e: Edition)
     numbers[4 * i + places::EDITION_VALUE_AT] = e.value as u32;
 }
 
-// Writes the figures of edition 0.
+// The figures of edition 0.
 pub fn base_figures(numbers: &mut [u32])
     requires { length numbers.old ≡ size }
     ensures { FiguresBase numbers.old numbers.new }
@@ -215,7 +215,7 @@ pub fn base_figures(numbers: &mut [u32])
     }
 }
 
-// An edition's value becomes the value of its figure. A free place changes nothing.
+// An edition's value becomes that of its figure; a free place has none.
 fn set_figure(numbers: &mut [u32], e: Edition)
     requires { length numbers.old ≡ size }
     ensures { FigureSet e numbers.old numbers.new }
@@ -230,7 +230,7 @@ fn set_figure(numbers: &mut [u32], e: Edition)
     numbers[2 * f + places::FIGURES_AT] = e.value as u32;
 }
 
-// Computes the figures in force: those of edition 0, and then the value of each edition in turn.
+// The figures in force: those of edition 0, and then those of each edition in turn.
 pub fn count_figures(numbers: &mut [u32])
     requires { length numbers.old ≡ size }
     ensures { FiguresCounted numbers.old numbers.new }
@@ -244,7 +244,7 @@ pub fn count_figures(numbers: &mut [u32])
     }
 }
 
-// Writes an edition at a free place, and computes the figures again.
+// An edition at a free place; the figures are counted anew.
 pub fn put_edition(numbers: &mut [u32], i: usize, e: Edition)
     requires { EditionRoom numbers.old i e }
     ensures numbers_after { venue_of numbers.new ≡ with_editions (venue_of numbers.old) (set (venue_of numbers.old).editions i e) }
@@ -254,7 +254,7 @@ pub fn put_edition(numbers: &mut [u32], i: usize, e: Edition)
     count_figures(numbers);
 }
 
-// Writes the last id accepted.
+// The last id accepted.
 pub fn put_last(numbers: &mut [u32], id: u32)
     requires { length numbers.old ≡ size }
     ensures numbers_after { venue_of numbers.new ≡ with_last (venue_of numbers.old) id }
@@ -263,7 +263,7 @@ pub fn put_last(numbers: &mut [u32], id: u32)
     numbers[places::LAST_ID_AT] = id;
 }
 
-// Writes a series' generations.
+// A series' generations anew.
 pub fn put_generations(numbers: &mut [u32], s: usize, g: Generations)
     requires { SeriesReady numbers.old s }
     ensures numbers_after { venue_of numbers.new ≡ with_generations (venue_of numbers.old) (set (venue_of numbers.old).generations s g) }
@@ -277,7 +277,7 @@ pub fn put_generations(numbers: &mut [u32], s: usize, g: Generations)
     }
 }
 
-// Adds a generation of a series, by the message of this number; the oldest goes.
+// One generation more of a series, by the message of this number; the oldest is forgotten.
 pub fn count_generation(numbers: &mut [u32], s: usize, number: u32)
     requires { SeriesReady numbers.old s }
     ensures numbers_after { venue_of numbers.new ≡ counted number s (venue_of numbers.old) }
@@ -293,7 +293,7 @@ pub fn count_generation(numbers: &mut [u32], s: usize, number: u32)
     numbers[last] = number;
 }
 
-// Writes the last id that a limited sweep looked at.
+// The last id that a limited sweep looked at.
 pub fn put_reached(numbers: &mut [u32], id: u32)
     requires { length numbers.old ≡ size }
     ensures numbers_after { venue_of numbers.new ≡ with_reached (venue_of numbers.old) id }
@@ -302,7 +302,7 @@ pub fn put_reached(numbers: &mut [u32], id: u32)
     numbers[places::ID_REACHED_AT] = id;
 }
 
-// How many of n regular places come before the first free one. The scan skips the places known to be held.
+// The regular places before the first free one of n; those that are known to be held are not looked at.
 fn held_regulars(numbers: &[u32], n: usize) -> usize
     requires { CountedRegulars numbers.now n }
     ensures { (result ≤ n) × Filled holds_regular (regular_in numbers.now) result }
@@ -317,7 +317,7 @@ fn held_regulars(numbers: &[u32], n: usize) -> usize
     n
 }
 
-// Closes the regular places' gaps; then all places in use are known to be held.
+// The regular places' gaps are closed, and all places in use are known to be held.
 pub fn close_regulars(numbers: &mut [u32])
     requires { MarkedNumbers numbers.old }
     ensures { RegularsClosed numbers.old numbers.new }
@@ -342,7 +342,7 @@ pub fn close_regulars(numbers: &mut [u32])
     numbers[places::REGULARS_KNOWN_AT] = j as u32;
 }
 
-// How many of n complex places come before the first free one. The scan skips the places known to be held.
+// The complex places before the first free one of n; those that are known to be held are not looked at.
 fn held_complexes(numbers: &[u32], n: usize) -> usize
     requires { CountedComplexes numbers.now n }
     ensures { (result ≤ n) × Filled holds_complex (complex_in numbers.now) result }
@@ -357,7 +357,7 @@ fn held_complexes(numbers: &[u32], n: usize) -> usize
     n
 }
 
-// Closes the complex places' gaps; then all places in use are known to be held.
+// The complex places' gaps are closed, and all places in use are known to be held.
 pub fn close_complexes(numbers: &mut [u32])
     requires { MarkedNumbers numbers.old }
     ensures { ComplexesClosed numbers.old numbers.new }
@@ -382,7 +382,7 @@ pub fn close_complexes(numbers: &mut [u32])
     numbers[places::COMPLEXES_KNOWN_AT] = j as u32;
 }
 
-// Closes all gaps.
+// All gaps are closed.
 pub fn close_gaps(numbers: &mut [u32])
     requires { RightNumbers numbers.old }
     ensures { GapsClosed numbers.old numbers.new }

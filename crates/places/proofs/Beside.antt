@@ -1,4 +1,4 @@
--- What is kept beside the venue, levels, counts, flag and mask: what a store leaves as it is, and what keeps it right.
+-- What is kept beside the venue, levels, marks and mask: what a store leaves as it is, and what keeps it right.
 use mathlib.Core.Path.{◌≡◌, refl, sym, ap, subst, ◌∙◌}
 use mathlib.Core.Bool.{Bool, true, true≢false}
 use mathlib.Core.Logic.{◌≢◌, ◌⊎◌, inl, inr}
@@ -58,7 +58,7 @@ all-showing b m z = m.shows z
 filled-as : {A : Type 0} (holds : A → Bool) (f g : ℕ → A) (m n : ℕ) → n ≤ m → ((k : ℕ) → k < n → holds (f k) ≡ holds (g k)) → Filled holds f m → Filled holds g n
 filled-as holds f g m n h same full = λ k w. sym (same k w) ∙ full k (omega arith)
 
--- held places stay so where one is written again, and holds
+-- held places stay so where one is written anew, and holds
 filled_at : {A : Type 0} (holds : A → Bool) (f g : ℕ → A) (i n : ℕ) → ((k : ℕ) → k ≢ i → holds (f k) ≡ holds (g k)) → holds (g i) ≡ true → Filled holds f n → Filled holds g n
 filled_at holds f g i n same h full = λ k w. elim (ℕ_discrete k i) [
   | yes e ↦ ap (λ (x : ℕ). holds (g x)) e ∙ h
@@ -156,7 +156,7 @@ complexes-lowered a b i h e same =
     filled-as holds_complex (complex_in a) (complex_in b) (min (get_or a complexes_known_at 0) (complexes_used a))
     (min (get_or b complexes_known_at 0) (complexes_used b)) (omega arith) (λ k w. ap holds_complex (same k (omega arith)))
 
--- a place written again, and held
+-- a place written anew, and held
 pub regular-holds : (a b : List ℕ) (i : ℕ) → i < regulars_used a → Outside (4 * i) (4 * i + 4) a b → holds_regular (regular_in b i) ≡ true → RegularsMarked a → RegularsMarked b
 regular-holds a b i h o held full =
     let z = regulars-few a in

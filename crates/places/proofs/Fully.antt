@@ -20,7 +20,7 @@ use Rattle.rules.proofs.Closing.{from, packed-at}
 use Rattle.rules.proofs.Arranging.{arranged-out, blank-is, blank-free}
 use Rattle.places.specs.Layout.{Bounded, Fully}
 
--- one order replaced
+-- one order anew
 pub fully-set : (os : List Regular) (i : ℕ) (x : Regular) → i < length os → shows_fully x ≡ true → Fully os → Fully (set os i x)
 fully-set os i x fits h f j = elim (ℕ_discrete j i) [
   | yes e ↦ ap (λ (k : ℕ). shows_fully (get_or (set os i x) k no_regular)) e ∙ ap shows_fully (get_or-set_same os i x no_regular fits) ∙ h

@@ -1,4 +1,4 @@
--- Laws of the mask of the legging places: one place replaced, and the loop that counts it.
+-- Laws of the mask of the legging places: one place anew, and the loop that counts it.
 use mathlib.Core.Path.{◌≡◌, refl, sym, ap, ◌∙◌}
 use mathlib.Core.Bool.{Bool, true, false}
 use mathlib.Core.List.{List, [], ◌∷◌}
@@ -42,7 +42,7 @@ weight-held n l h e =
     let z = shl_exact {a = 1} 1 n 32 (lit< tt) (omega arith) in
     (z ∙ ap (λ (x : ℕ). x * 2 ^ n) (bit-held l e), rw (z, one-mul (2 ^ n)) (pow_mono {j = 15} (omega arith)))
 
--- One place replaced --------------------------------------------------------------------------
+-- One place anew ------------------------------------------------------------------------------
 
 mask_lt : (ls : List Legging) → mask ls < 2 ^ length ls
 unfolding mask bit_of

@@ -12,7 +12,7 @@ use lib.Seq.{get_or-set_same, get_or-set_other}
 use Rattle.rules.specs.declared.Regular.{Regular}
 use Rattle.rules.specs.declared.Venue.{Venue}
 use Rattle.rules.specs.Base.{held}
-use Rattle.rules.specs.Words.{no_regular, within, is_series, is_side, is_price}
+use Rattle.rules.specs.Words.{no_regular, within, is_price}
 use Rattle.rules.specs.Places.{holds_regular, packed, blank_regular}
 use Rattle.rules.specs.Refusals.{regular_in_range}
 use Rattle.rules.specs.Sound.{regulars_sound}
@@ -20,15 +20,7 @@ use Rattle.rules.proofs.Tests.{and_l, and_r, pos-held}
 use Rattle.rules.proofs.Filling.{Fewer, still-held}
 use Rattle.rules.proofs.Closing.{from, packed-at, from-rises}
 use Rattle.rules.proofs.Arranging.{arranged-out, blank-free}
-use Rattle.places.specs.Layout.{OnSide, Orderly}
-
--- an order in range is of a series and a side
-pub regular-side : (o : Regular) → regular_in_range o ≡ true → OnSide o.series o.side
-unfolding regular_in_range is_series is_side within
-regular-side o z =
-    let a = leb-true o.series 7 (search (and_l, and_r, z) depth 8) in
-    let b = leb-true o.side 1 (search (and_l, and_r, z) depth 8) in
-    record { series = omega arith; side = omega arith }
+use Rattle.places.specs.Layout.{Orderly}
 
 -- no order comes, and none changes but in its quantity and what it shows; each that rests still has a shown quantity
 pub orderly-fewer : (a b : List Regular) → Fewer a b →

@@ -254,7 +254,7 @@ module _ {low high : ℕ} {a b : List ℕ} (o : Outside low high a b) where
   unfolding venue_of
   reached-kept h = o.same id_reached_at h
 
--- One place replaced --------------------------------------------------------------------------
+-- One place anew ------------------------------------------------------------------------------
 
 -- venues with the same parts are the same
 pub venue-is : (v w : Venue) → v.regular ≡ w.regular → v.complex ≡ w.complex → v.legging ≡ w.legging → v.series ≡ w.series →

@@ -1,4 +1,4 @@
--- Lists given by a function of the place: their lengths, their elements, and one element replaced.
+-- Lists given by a function of the place: their lengths, their elements, and one element anew.
 use mathlib.Core.Path.{◌≡◌, refl, sym, ap, ap₂, ◌∙◌}
 use mathlib.Core.Logic.{◌≢◌}
 use mathlib.Core.List.{List, [], ◌∷◌, ◌++◌}
@@ -79,7 +79,7 @@ module _ {A : Type 0} where
   unfolding in_use
   used-same f g d n all h = ap (λ (l : List A). l ++ replicate (all - n) d) (upto-same f g 0 n (λ j p q. h j (omega arith)))
 
-  -- one element replaced, of places in use or of a whole table
+  -- one element anew, of places in use or of a whole table
   module _ (f g : ℕ → A) (d : A) (i : ℕ) where
     used-elem : (n all : ℕ) → i < n → n ≤ all → ((j : ℕ) → j < n → j ≢ i → f j ≡ g j) → (j : ℕ) →
         get_or (in_use g d n all) j d ≡ get_or (set (in_use f d n all) i (g i)) j d

@@ -1,4 +1,4 @@
--- The venue as numbers in one slice, and the venue that they stand for.
+-- The venue as numbers in one lent slice, and the venue that they stand for.
 --
 --   from   numbers                                                             places
 --      0   id, legging place of its series and side, price, quantity           128 regular
@@ -18,8 +18,8 @@
 --
 -- Legs is 16 * the legging place of the first leg + that of the second; ratios is 256 * the ratio of the first leg + that of the second.
 -- What stands in regular and complex places that are not in use means nothing. The numbers from 779 to 829, from 958 to 974 and the flag are kept
--- beside the venue. Figures do not stand next to each other: a compiler would then keep the figures of edition 0 as a table.
--- A fill writes an order's quantity alone: its reserve and its shown quantity are the numbers written, but at most what is left.
+-- beside the venue. Figures stand apart, since of those next to each other a compiler keeps the first ones, edition 0's, as a table.
+-- A fill writes an order's quantity alone: its reserve and its shown quantity are the numbers written, and no more than what is left.
 use Rattle.std.specs.Prelude.{◌≡◌, Bool, true, false, ◌⊎◌, List, [], ◌∷◌, ◌++◌, ℕ, zero, suc, ◌+◌, ◌-◌, ◌*◌, ◌/◌, ◌%◌, ◌≤◌, ◌<◌, min, ℤ, pos, nat_abs, ◌+ℤ◌, ◌-ℤ◌, eqb, length, get_or, replicate}
 use Rattle.std.proofs.lemmas.List.Edits.{sets as row}
 use Rattle.rules.specs.declared.Regular.{Regular}
@@ -106,7 +106,7 @@ edition_in b i = record {
 unfoldable pub generations_in : List ℕ → (series : ℕ) → Generations
 generations_in b s = record { messages = upto (λ k. get_or b k 0) (20 * s + generation_messages_at) 20 }
 
--- an order's series and side as one number, by which a scan skips other orders; and the legs of a complex order as one number
+-- an order's series and side as one number, by which a scan passes over the others, and so the legs of a complex order
 unfoldable pub regular_key : Regular → ℕ
 regular_key o = place_of o.series o.side
 
@@ -117,7 +117,7 @@ legs_key c = 16 * place_of c.series1 c.side1 + place_of c.series2 c.side2
 unfoldable pub ratios_number : Complex → ℕ
 ratios_number c = 256 * c.ratio1 + c.ratio2
 
--- the legs and the ratios of a complex order as one number, by which the search for a cross skips other orders
+-- the legs and the ratios of a complex order as one number, by which the search for a cross passes over the others
 unfoldable pub cross_key : Complex → ℕ
 cross_key c = 256 * ratios_number c + legs_key c
 
@@ -237,8 +237,8 @@ Below id os = (i : ℕ) → held (get_or os i no_regular).quantity ≡ true → 
 unfoldable pub bit_of : Legging → ℕ
 bit_of l = if held l.quantity then 1 else 0
 
--- what is known of the places: those known to be held are held, and the mask is that of the legging places; the figures are those in force; and where
--- the show-again flag is 0 every order shows what it should
+-- what is known of the places: those known to be held are, and the mask is that of the legging places; the figures are those in force; and without
+-- the show-again flag every order shows what it should
 pub record Marked (b : List ℕ) : Type 0 where
   pub regulars : Filled holds_regular (regular_in b) (min (get_or b regulars_known_at 0) (regulars_used b))
   pub complexes : Filled holds_complex (complex_in b) (min (get_or b complexes_known_at 0) (complexes_used b))
@@ -322,10 +322,30 @@ pub record GapsClosed (a b : List ℕ) : Type 0 where
 
 -- A venue's places, loaded --------------------------------------------------------------------
 
+-- held places first, each as asked, and free places as none
+pub record Placed {A : Type 0} (holds : A → Bool) (none : A) (Asked : A → Type 0) (l : List A) : Type 0 where
+  pub dense : (i j : ℕ) → i < j → holds (get_or l j none) ≡ true → holds (get_or l i none) ≡ true
+  pub blank : (i : ℕ) → holds (get_or l i none) ≡ false → get_or l i none ≡ none
+  pub asked : (i : ℕ) → holds (get_or l i none) ≡ true → Asked (get_or l i none)
+
 -- a series and a side
 pub record OnSide (s d : ℕ) : Type 0 where
   pub series : s < 8
   pub side : d < 2
+
+abbrev pub RegularsPlaced : List Regular → Type 0
+RegularsPlaced = Placed holds_regular no_regular (λ o. OnSide o.series o.side × Bounded o)
+
+abbrev pub ComplexesPlaced : List Complex → Type 0
+ComplexesPlaced = Placed holds_complex no_complex (λ c. OnSide c.series1 c.side1 × OnSide c.series2 c.side2)
+
+-- what a load asks of a venue; a sound one has it (proofs/Loaded.antt)
+pub record Loadable (v : Venue) : Type 0 where
+  pub regulars : RegularsPlaced v.regular
+  pub complexes : ComplexesPlaced v.complex
+  pub orders : Orderly v.regular
+  pub shows : Fully v.regular
+  pub increments : (s : ℕ) → s < 8 → 0 < increment v s
 
 -- from a to b one book becomes l, and is dense
 pub record RegularsLoaded (a : List ℕ) (l : List Regular) (b : List ℕ) : Type 0 where

@@ -116,7 +116,7 @@ edition_next_at = 834
 abbrev pub figures_at : ℕ
 figures_at = 958
 
--- 2 more numbers of each of 128 regular places
+-- 2 numbers more of each of 128 regular places
 abbrev pub regular_reserve_at : ℕ
 regular_reserve_at = 975
 

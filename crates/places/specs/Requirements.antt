@@ -5,10 +5,11 @@ use Rattle.rules.specs.Complex.{rests_regular, rests_complex}
 use Rattle.rules.specs.Places.{holds_edition}
 use Rattle.rules.specs.Sound.{shows_fully}
 use Rattle.rules.specs.Refusals.{regular_in_range}
-use Rattle.places.specs.Layout.{size, Right, Dense, Marked, Figured, regulars_used, complexes_used, none_shows_again, edition_in, venue_of, Below}
+use Rattle.places.specs.Layout.{size, Right, Dense, Marked, Figured, regulars_used, complexes_used, none_shows_again, edition_in, venue_of, Below, Loadable, RegularsPlaced, ComplexesPlaced}
 use Rattle.rules.specs.declared.Regular.{Regular}
 use Rattle.rules.specs.declared.Complex.{Complex}
 use Rattle.rules.specs.declared.Edition.{Edition}
+use Rattle.rules.specs.declared.Venue.{Venue}
 use Rattle.rules.specs.Settings.{free_edition}
 
 -- a whole slice, and what is kept beside the venue is right
@@ -187,6 +188,21 @@ pub record DenseOrder (b : List ℕ) (o : Regular) : Type 0 where
   pub shows : held o.display ≡ true
   pub display : o.display ≤ o.quantity
   pub fully : shows_fully o ≡ true
+
+-- a whole slice and a venue that it can stand for
+pub record LoadReady (b : List ℕ) (v : Venue) : Type 0 where
+  pub whole : length b ≡ size
+  pub loadable : Loadable v
+
+-- a whole slice and regular orders that it can stand for
+pub record RegularsLoadReady (b : List ℕ) (l : List Regular) : Type 0 where
+  pub whole : length b ≡ size
+  pub placed : RegularsPlaced l
+
+-- a whole slice and complex orders that it can stand for
+pub record ComplexesLoadReady (b : List ℕ) (l : List Complex) : Type 0 where
+  pub whole : length b ≡ size
+  pub placed : ComplexesPlaced l
 
 -- numbers without gaps, and an order with the id n rests
 pub record DenseRests (b : List ℕ) (n : ℕ) : Type 0 where

@@ -1,15 +1,15 @@
-// The venue inside a call: numbers in one slice (specs/Layout.antt), and how they are read. Only this crate, place_writes, venue_numbers and venue_reader know
-// the layout. The other crates read and write places, and their contracts name the venue that the numbers stand for.
+// The venue inside a call: numbers in one lent slice (specs/Layout.antt), as they are read. Only this crate, place_writes and venue_numbers know the layout: the others
+// read and write places, and speak of the venue that the numbers stand for.
 ghost use Rattle.std.specs.Prelude.{◌≡◌, min, ◌-◌, ◌≤◌, pos, ◌-ℤ◌, length, get_or};
 ghost use Rattle.rules.specs.Settings.{figure_now, free_edition};
 ghost use Rattle.rules.specs.Generation.{generations_of};
 ghost use Rattle.rules.specs.Step.{mask};
-ghost use Rattle.places.specs.Layout.{size, regulars_used, complexes_used, regular_in, complex_in, legging_in, listed_in, edition_in, level_in, regular_key, cross_key, venue_of};
+ghost use Rattle.places.specs.Layout.{size, regulars_used, complexes_used, regular_in, complex_in, legging_in, listed_in, edition_in, generations_in, level_in, regular_key, cross_key, venue_of};
 ghost use Rattle.places.specs.Layout.{facing_key};
 ghost use Rattle.places.specs.Layout.{none_shows_again};
 ghost use Rattle.places.specs.Requirements.{RightNumbers, SeriesReady, PlaceReady, FigureReady, GenerationReady};
 
-use rules::{Complex, Edition, Legging, Listed, Regular};
+use rules::{Complex, Edition, Generations, Legging, Listed, Regular, Venue};
 
 // The slice's length.
 pub const SIZE: usize = 1393;
@@ -87,7 +87,7 @@ pub const EDITION_VALUE_AT: usize = 833;
 // 9 figures in force, in every second number.
 pub const FIGURES_AT: usize = 958;
 
-// 2 more numbers of each of 128 regular places.
+// 2 numbers more of each of 128 regular places.
 pub const REGULAR_RESERVE_AT: usize = 975;
 
 pub const REGULAR_DISPLAY_AT: usize = 976;
@@ -125,7 +125,7 @@ pub fn at_most(x: usize, n: usize) -> usize
     n
 }
 
-// How many regular places are in use, at most 128.
+// The regular places in use.
 pub fn regulars_used(numbers: &[u32]) -> usize
     requires { length numbers.now ≡ size }
     ensures { (result ≡ regulars_used numbers.now) × (result ≤ 128) }
@@ -133,7 +133,7 @@ pub fn regulars_used(numbers: &[u32]) -> usize
     at_most(wide(numbers[REGULARS_USED_AT]), 128)
 }
 
-// How many complex places are in use, at most 32.
+// The complex places in use.
 pub fn complexes_used(numbers: &[u32]) -> usize
     requires { length numbers.now ≡ size }
     ensures { (result ≡ complexes_used numbers.now) × (result ≤ 32) }
@@ -232,7 +232,7 @@ pub fn free_edition(numbers: &[u32]) -> usize
     32
 }
 
-// A figure in force, as the numbers keep it: the increment of a series, or the percentage.
+// A figure in force, as it is kept: the increment of a series, or the percentage.
 pub fn figure_at(numbers: &[u32], f: usize) -> u8
     requires { FigureReady numbers.now f }
     ensures { result ≡ figure_now (venue_of numbers.now) f }
@@ -240,7 +240,7 @@ pub fn figure_at(numbers: &[u32], f: usize) -> u8
     (numbers[2 * f + FIGURES_AT] % 256) as u8
 }
 
-// The mask of the legging places that are filled, as the numbers keep it: bit n is place n.
+// The legging places that are filled, as they are kept: bit n is place n.
 pub fn mask_of(numbers: &[u32]) -> u16
     requires { RightNumbers numbers.now }
     ensures { result ≡ mask (venue_of numbers.now).legging }
@@ -248,7 +248,7 @@ pub fn mask_of(numbers: &[u32]) -> u16
     (numbers[LEGGING_MASK_AT] % 65536) as u16
 }
 
-// The show-again flag is 0. In right numbers every order then shows what it should.
+// Every order shows what it should, as far as is known: the show-again flag is 0.
 pub fn none_shows_again(numbers: &[u32]) -> bool
     requires { length numbers.now ≡ size }
     ensures { result ≡ none_shows_again numbers.now }
@@ -256,7 +256,7 @@ pub fn none_shows_again(numbers: &[u32]) -> bool
     numbers[SHOW_AGAIN_AT] == 0
 }
 
-// A limit from the number that keeps it, which is 2^31 above its value.
+// A limit, as it is kept: 2^31 above its value.
 fn limit_of(x: u32) -> i32
     ensures { result ≡ pos x -ℤ pos 2147483648 }
 {
@@ -322,7 +322,7 @@ pub fn generation_at(numbers: &[u32], s: usize, k: usize) -> u32
     numbers[20 * s + k + GENERATION_MESSAGES_AT]
 }
 
-// The message of the oldest of a series' last 20 generations; 0 where there were fewer.
+// The message of the oldest of them.
 pub fn oldest_at(numbers: &[u32], s: usize) -> u32
     requires { SeriesReady numbers.now s }
     ensures { result ≡ get_or (generations_of (venue_of numbers.now) s) 0 0 }
@@ -348,5 +348,144 @@ pub fn level_at(numbers: &[u32], n: usize) -> Level
     Level {
         price: numbers[3 * n + LEVEL_PRICE_AT],
         size: (low as u64) + 4294967296 * (high as u64),
+    }
+}
+
+// The venue anew, part by part ----------------------------------------------------------------
+
+// The regular orders, place by place.
+fn regulars_of(numbers: &[u32]) -> [Regular; 128]
+    requires { length numbers.now ≡ size }
+    ensures { result ≡ (venue_of numbers.now).regular }
+{
+    let free = rules::NO_REGULAR;
+    let mut r = [free; 128];
+    let n = regulars_used(numbers);
+    let mut i: usize = 0;
+    while i < n {
+        let x = regular_at(numbers, i);
+        r[i] = x;
+        i += 1;
+    }
+    r
+}
+
+// The complex orders, place by place.
+fn complexes_of(numbers: &[u32]) -> [Complex; 32]
+    requires { length numbers.now ≡ size }
+    ensures { result ≡ (venue_of numbers.now).complex }
+{
+    let free = rules::NO_COMPLEX;
+    let mut r = [free; 32];
+    let n = complexes_used(numbers);
+    let mut i: usize = 0;
+    while i < n {
+        let x = complex_at(numbers, i);
+        r[i] = x;
+        i += 1;
+    }
+    r
+}
+
+// The legging orders, place by place.
+fn leggings_of(numbers: &[u32]) -> [Legging; 16]
+    requires { length numbers.now ≡ size }
+    ensures { result ≡ (venue_of numbers.now).legging }
+{
+    let free = rules::NO_LEGGING;
+    let mut r = [free; 16];
+    let mut i: usize = 0;
+    while i < 16 {
+        let x = legging_at(numbers, i);
+        r[i] = x;
+        i += 1;
+    }
+    r
+}
+
+// The status and away prices of every series.
+fn series_of(numbers: &[u32]) -> [Listed; 8]
+    requires { length numbers.now ≡ size }
+    ensures { result ≡ (venue_of numbers.now).series }
+{
+    let free = rules::NOT_LISTED;
+    let mut r = [free; 8];
+    let mut i: usize = 0;
+    while i < 8 {
+        let x = listed_at(numbers, i);
+        r[i] = x;
+        i += 1;
+    }
+    r
+}
+
+// The editions, place by place.
+fn editions_of(numbers: &[u32]) -> [Edition; 32]
+    requires { length numbers.now ≡ size }
+    ensures { result ≡ (venue_of numbers.now).editions }
+{
+    let free = rules::NO_EDITION;
+    let mut r = [free; 32];
+    let mut i: usize = 0;
+    while i < 32 {
+        let x = edition_at(numbers, i);
+        r[i] = x;
+        i += 1;
+    }
+    r
+}
+
+// The messages of a series' last 20 generations.
+fn generations_at(numbers: &[u32], s: usize) -> Generations
+    requires { SeriesReady numbers.now s }
+    ensures { result ≡ generations_in numbers.now s }
+{
+    let mut messages = [0u32; 20];
+    let mut k: usize = 0;
+    while k < 20 {
+        messages[k] = numbers[20 * s + k + GENERATION_MESSAGES_AT];
+        k += 1;
+    }
+    Generations { messages }
+}
+
+// The messages of every series' last 20 generations.
+fn generations_of(numbers: &[u32]) -> [Generations; 8]
+    requires { length numbers.now ≡ size }
+    ensures { result ≡ (venue_of numbers.now).generations }
+{
+    let none = rules::NO_GENERATIONS;
+    let mut r = [none; 8];
+    let mut i: usize = 0;
+    while i < 8 {
+        let x = generations_at(numbers, i);
+        r[i] = x;
+        i += 1;
+    }
+    r
+}
+
+// The venue that the numbers stand for.
+pub fn venue_of(numbers: &[u32]) -> Venue
+    requires { length numbers.now ≡ size }
+    ensures { result ≡ venue_of numbers.now }
+{
+    let regular = regulars_of(numbers);
+    let complex = complexes_of(numbers);
+    let legging = leggings_of(numbers);
+    let series = series_of(numbers);
+    let editions = editions_of(numbers);
+    let generations = generations_of(numbers);
+    let last = last_id(numbers);
+    let reached = reached_id(numbers);
+    Venue {
+        regular,
+        complex,
+        legging,
+        series,
+        editions,
+        generations,
+        last,
+        reached,
     }
 }

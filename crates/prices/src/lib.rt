@@ -1,4 +1,4 @@
-// Own, clear and market prices of a side, the band and the increment; a legging order's parent; a complex order's other leg, and whether its series are open.
+// What is read of a side: own, clear and market prices, the band, the increment; and of a complex order its legs, its parent and whether its series are open.
 ghost use Rattle.std.specs.Prelude.{◌≡◌, ◌<◌, length};
 ghost use Rattle.rules.specs.Words.{legging_at, status_of, is_complex_of};
 ghost use Rattle.rules.specs.Settings.{increment};
@@ -16,7 +16,7 @@ use rules::{Complex, Leg, Legging};
 
 // Prices of a side ----------------------------------------------------------------------------
 
-// What the test of the leg of c at side d of series s reads of the regular orders, looked up in a grid.
+// What the test of the leg of c at side d of series s asks of the regular orders, looked up in a grid.
 pub fn sides_of(g: [[Level; 2]; 8], c: Complex, s: u8, d: u8) -> LegSides
     requires { (LegsIn c) × (s < 8) × (d < 2) }
     ensures { result ≡ sides_in g c s d }
@@ -52,7 +52,7 @@ pub fn own_price(numbers: &[u32], s: u8, d: u8) -> u32
     l.price
 }
 
-// The best own price of a side, legging included; `best` is its best regular price.
+// The best own price of a side, legging included; best is its best regular price.
 pub fn best_own(numbers: &[u32], best: u32, s: u8, d: u8) -> u32
     requires { BestReady numbers.now best s d }
     ensures { result ≡ best_own (venue_of numbers.now) s d }
@@ -61,7 +61,7 @@ pub fn best_own(numbers: &[u32], best: u32, s: u8, d: u8) -> u32
     arithmetic::better_of(d, own, best)
 }
 
-// The size at the best own price of a side, legging included; `level` is that of its regular orders.
+// The size at the best own price of a side, legging included; level is that of its regular orders.
 pub fn own_size(numbers: &[u32], level: Level, s: u8, d: u8) -> u64
     requires { LevelReady numbers.now level s d }
     ensures { result ≡ own_size (venue_of numbers.now) s d }
@@ -80,7 +80,7 @@ pub fn own_size(numbers: &[u32], level: Level, s: u8, d: u8) -> u64
     level.size
 }
 
-// The clear price of a side: `best`, its best regular price, or 0 if there is none or if the legging order there has a strictly better own price.
+// The best regular price, 0 if there is none or if the legging order has a strictly better own price.
 pub fn clear_price(numbers: &[u32], best: u32, s: u8, d: u8) -> u32
     requires { BestReady numbers.now best s d }
     ensures { result ≡ clear_price (venue_of numbers.now) s d }
@@ -113,7 +113,7 @@ pub fn market_best(numbers: &[u32], best: u32, s: u8, d: u8) -> u32
     arithmetic::better_of(d, out, best)
 }
 
-// The net t of a complex order is in band; `taken` has the levels that its legs take.
+// The net t of a complex order is in band; taken has the levels that its legs take.
 pub fn in_band(numbers: &[u32], taken: TakenLevels, c: Complex, t: i64) -> bool
     requires { BandReady numbers.now taken c t }
     ensures { result ≡ in_band (venue_of numbers.now) c t }
@@ -166,7 +166,7 @@ pub fn other_leg(c: Complex, s: u8) -> Leg
     }
 }
 
-// A complex order rests and has this id.
+// A resting complex order of this id.
 pub fn is_complex_of(c: Complex, id: u32) -> bool
     ensures { result ≡ is_complex_of id c }
 {
@@ -176,7 +176,7 @@ pub fn is_complex_of(c: Complex, id: u32) -> bool
     c.id == id
 }
 
-// The parent of a legging order; a free place where the parent does not rest.
+// The complex order of a legging order.
 pub fn parent_of(numbers: &[u32], l: Legging) -> Complex
     requires { length numbers.now ≡ size }
     ensures { result ≡ parent_of (venue_of numbers.now) l }

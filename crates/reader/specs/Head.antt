@@ -6,7 +6,7 @@ use Rattle.rules.specs.Refusals.{torn}
 use Rattle.reader.specs.declared.Head.{Head}
 use Rattle.reader.specs.declared.Head.TheVariants.{End, Torn, Message}
 
--- of the bytes left: none; "1 to 3 bytes left …, or length below 4 or above what is left"; or a message, given by its length
+-- of the bytes left: none; "1 to 3 bytes left …, or length below 4 or above what is left"; or a message, told by its length
 unfoldable pub head_of : List ℕ → Head
 head_of bs = if eqb (length bs) 0 then End else if torn bs then Torn else Message (length_field bs)
 
@@ -20,7 +20,7 @@ head_number End = 0
 head_number Torn = 1
 head_number (Message n) = 0
 
--- how many bytes the run moves on
+-- how many bytes further the run goes on
 abbrev pub head_length : Head → ℕ
 head_length End = 0
 head_length Torn = 0

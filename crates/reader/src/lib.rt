@@ -1,5 +1,5 @@
-// Takes messages one by one from the caller's memory and copies none. A reader holds the memory and a position in it. The functions on a reader are thin:
-// `head_at` does the work on a plain slice. Other crates use `message_head`, whose parameters are plain.
+// Messages taken one by one from the caller's memory, uncopied. A reader holds the memory and a position in it; the functions over it are thin, and the work
+// is done by `head_at`, on a plain slice. Callers use `message_head`, whose parameters are plain.
 ghost use Rattle.std.specs.Prelude.{◌≡◌};
 ghost use Rattle.reader.specs.Head.{head_at, head_number, head_length};
 
@@ -60,7 +60,7 @@ pub fn message_head(messages: &[u8], at: usize) -> Head
     next(reader_at(messages, at))
 }
 
-// The number that ends a run there; 0 also where the run goes on.
+// The number that ends a run there; 0 too where it goes on.
 pub fn head_number(head: Head) -> u8
     ensures { result ≡ head_number head }
 {
@@ -71,7 +71,7 @@ pub fn head_number(head: Head) -> u8
     }
 }
 
-// How many bytes the run moves on.
+// How many bytes further the run goes on.
 pub fn head_length(head: Head) -> u16
     ensures { result ≡ head_length head }
 {

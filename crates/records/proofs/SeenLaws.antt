@@ -1,4 +1,4 @@
--- Laws of what is written of a slice: one write, any number of them, and writes to a part of it.
+-- Laws of what is written of a lent slice: one write, any number of them, and writes to a part of it.
 use mathlib.Core.Path.{◌≡◌, refl, sym, ap, ap₂, ◌∙◌}
 use mathlib.Core.Bool.{Bool, true, false}
 use mathlib.Core.List.{List, [], ◌∷◌, ◌++◌, append_assoc, append-nil}
@@ -419,7 +419,7 @@ unfolding ◌writes◌
 onto-writes p w [] = refl
 onto-writes p w (r ∷ rs) = onto-writes p (w plus encode r) rs ∙ ap (λ (x : Seen). x writes rs) (onto-plus p w (encode r))
 
--- the tail of a slice from a on: taken as a slice, it is all of it
+-- the tail of a slice from a on: what is lent of it is all of it
 pub part-all : (l : List ℕ) (a : ℕ) → take (length l - a) (drop a l) ≡ drop a l
 part-all l a = take_all (length l - a) (drop a l) (rw length-drop (omega arith))
 
@@ -504,7 +504,7 @@ pub answer-length : (a b c d : ℕ) → length (encode (answer a b c d)) ≡ 12
 unfolding encode framed bytes
 answer-length a b c d = refl
 
--- an answer written first, records after it, and then the answer written again: the hypotheses are what these three ensure
+-- an answer written first, records after it, and then the answer set anew: the hypotheses are what these three ensure
 pub answer-last : (l k m o : List ℕ) (at i end a b c d x y z u : ℕ) (rs : List Report) → seen k i ≡ seen l at writes (answer a b c d ∷ []) →
     seen m end ≡ seen k i writes rs → o ≡ (seen m at writes (answer x y z u ∷ [])).memory → seen o end ≡ seen l at writes (answer x y z u ∷ rs)
 unfolding ◌writes◌

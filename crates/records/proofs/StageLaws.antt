@@ -20,7 +20,7 @@ pub does-report : (v : Venue) (l m : List ℕ) (i j : ℕ) (r : Report) → seen
 unfolding stage ◌does◌ report
 does-report v l m i j r e = ap (λ (w : Seen). record { venue = v; written = w }) e
 
--- after an effect, f on the stage that it left: a turn of a loop whose invariant is what is left to do
+-- after an effect, f upon the stage that it left: a turn of a loop whose invariant is what is left to do
 pub onward : (w : Seen) (e : Effect) (f : Venue → Effect) (v : Venue) (l : List ℕ) (at : ℕ) → stage v l at ≡ w does e →
     w does (e ⟫ f) ≡ seen l at does f v
 unfolding stage ◌does◌ ◌⟫◌

@@ -1,4 +1,4 @@
--- The bytes of a slice: what is written of it (Seen), a venue together with it (Stage), and a record found in it (Next).
+-- What the bytes of a lent slice come to: what is written of it, a venue beside it, and a record found in it.
 pub mod Seen
 pub mod Stage
 pub mod Next

@@ -6,7 +6,7 @@ use Rattle.rules.specs.Records.{Report, record_of}
 use Rattle.records.specs.declared.Next.{Next}
 use Rattle.records.specs.declared.Next.TheVariants.{Found, End}
 
--- What stands at a position: "the sheet ends at the first zero length or at the end of the report memory". A record is given by its kind and
+-- What stands at a position: "the sheet ends at the first zero length or at the end of the report memory". A record is told by its kind and
 -- the position after it, which is no further than the end.
 unfoldable pub next_record : (memory : List ℕ) (at : ℕ) → Next
 next_record memory at =

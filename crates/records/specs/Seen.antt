@@ -1,4 +1,4 @@
--- A slice and the position up to which it is written; what writing bytes and records there leaves of both.
+-- A lent slice and the position up to which it is written; what writing bytes and records there leaves of both.
 use Rattle.std.specs.Prelude.{List, [], ◌∷◌, ◌++◌, ℕ, suc, ◌+◌, leb, length, take, drop}
 use Rattle.rules.specs.Base.{if◌then◌else◌}
 use Rattle.rules.specs.Bytes.{u32}
@@ -21,7 +21,7 @@ unfoldable pub word_bytes : List ℕ → List ℕ
 word_bytes [] = []
 word_bytes (x ∷ xs) = u32 x ++ word_bytes xs
 
--- bs, written at the position where they fit; where not, no byte is written, and the position is past the end and stays there
+-- bs, written at the position where they fit; where not, no byte is written and the position is past the end, for good
 infixl 6 ◌plus◌
 unfoldable pub ◌plus◌ : Seen → List ℕ → Seen
 w plus bs =

@@ -1,4 +1,4 @@
--- A venue with what is written of the report: what a rule leaves that changes the venue and writes to the report.
+-- A venue with what is written of the report: what a rule that changes the one and writes to the other leaves.
 use Rattle.std.specs.Prelude.{List, ℕ}
 use Rattle.rules.specs.declared.Venue.{Venue}
 use Rattle.rules.specs.Effects.{Effect}

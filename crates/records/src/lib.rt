@@ -1,4 +1,4 @@
-// Writes bytes and records into a slice, and reads a sheet record by record.
+// Records out: bytes and records written into a lent slice, and the sheet read back.
 ghost use Rattle.std.specs.Prelude.{◌≡◌, [], ◌∷◌, ◌++◌, ◌+◌, ◌-◌, ◌*◌, ◌≤◌, length, take, replicate};
 ghost use Rattle.rules.specs.Bytes.{bytes, i32};
 ghost use Rattle.rules.specs.Records.{answer, trade, pair, generated, removed, crossed, cancelled, looked};
@@ -9,7 +9,7 @@ use rules::Cause;
 
 // Writing -------------------------------------------------------------------------------------
 
-// Writes the bytes of `src` at `at`, and returns the position after them. Where they do not fit it writes nothing and returns a position past the end.
+// The bytes of `src` at `at`, and the position after them. Where they do not fit nothing is written, and the position is past the end.
 pub fn put(out: &mut [u8], at: usize, src: &[u8]) -> usize
     ensures { seen out.new result ≡ seen out.old at plus (λ x. x.now) src.entry }
 {
@@ -28,7 +28,7 @@ pub fn put(out: &mut [u8], at: usize, src: &[u8]) -> usize
     at + src.len()
 }
 
-// A number as two bytes, little-endian.
+// The low bytes of a number, lowest first.
 fn bytes2(x: u16) -> [u8; 2]
     ensures { result ≡ bytes 2 x }
 {
@@ -47,7 +47,7 @@ pub fn bytes4(x: u32) -> [u8; 4]
     ]
 }
 
-// Writes a number's four bytes at `at`.
+// A number's four bytes in the place of those at `at`.
 fn store4(out: &mut [u8], at: usize, x: u32)
     requires { at + 4 ≤ length out.old }
     ensures { out.new ≡ pasted out.old at (bytes 4 x) }
@@ -58,7 +58,7 @@ fn store4(out: &mut [u8], at: usize, x: u32)
     out[at + 3] = (x / 256 / 256 / 256 % 256) as u8;
 }
 
-// Writes the four bytes of each of `words`, from `at` on.
+// The bytes of each of `words`, four each, in the place of those from `at` on.
 fn store_words(out: &mut [u8], at: usize, words: &[u32])
     requires { at + 4 * length words.now ≤ length out.old }
     ensures { out.new ≡ pasted out.old at (word_bytes words.now) }
@@ -70,7 +70,7 @@ fn store_words(out: &mut [u8], at: usize, words: &[u32])
     }
 }
 
-// Writes the bytes of `head` and then those of each of `words`, or nothing where they do not all fit.
+// The bytes of `head` and then those of each of `words`, as one write.
 pub fn put_words(out: &mut [u8], at: usize, head: &[u8], words: &[u32]) -> usize
     requires { (length head.now ≤ 16) × (length words.now ≤ 4) }
     ensures { seen out.new result ≡ seen out.old at plus (head.now ++ word_bytes words.now) }
@@ -121,7 +121,7 @@ pub fn emit_answer(
     put(out, at, &record)
 }
 
-// Writes the answer at `at` again. The bytes after its 12 stay as they were.
+// The answer at `at` set anew, the bytes after its 12 as they were.
 pub fn set_answer(out: &mut [u8], at: usize, number: u32, refusal: u8, mask: u16, count: u8)
     ensures { out.new ≡ (seen out.old at writes (answer number refusal mask count ∷ [])).memory }
 {
@@ -146,7 +146,7 @@ pub fn emit_trade(
     put_words(out, at, &head, &words)
 }
 
-// 66: units of a complex order whose two legs traded, and their net.
+// 66: pairs of both legs traded, and their net.
 pub fn emit_pair(out: &mut [u8], at: usize, id: u32, net: i64, quantity: u32) -> usize
     ensures { seen out.new result ≡ seen out.old at writes (pair id net quantity ∷ []) }
 {
@@ -174,7 +174,7 @@ pub fn emit_generated(
     put_words(out, at, &head, &words)
 }
 
-// 68: a legging order removed, and why.
+// 68: a legging order gone, and why.
 pub fn emit_removed(out: &mut [u8], at: usize, id: u32, series: u8, side: u8, cause: Cause) -> usize
     ensures { seen out.new result ≡ seen out.old at writes (removed id series side cause ∷ []) }
 {
@@ -217,7 +217,7 @@ pub fn emit_looked(out: &mut [u8], at: usize, count: u8) -> usize
     put(out, at, &record)
 }
 
-// Writes zeros from `at` on.
+// Zeros from `at` on.
 pub fn zero_from(out: &mut [u8], at: usize)
     ensures { out.new ≡ take at out.old ++ replicate (length out.old - at) 0 }
 {

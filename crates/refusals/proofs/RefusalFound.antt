@@ -1,4 +1,4 @@
--- A message's refusal on a venue, from the tests that the code makes.
+-- A message's refusal upon a venue, from the tests that the code makes.
 use mathlib.Core.Path.{◌≡◌, refl, ap, ◌∙◌}
 use mathlib.Core.Bool.{Bool, true, false, not, ◌&&◌, ◌||◌}
 use Prim.Native.Nat.{ℕ}

@@ -1,4 +1,4 @@
-// Which refusal a message gets if its fields are in range, or none.
+// Which refusal a message gets whose fields are in range, or none.
 ghost use Rattle.std.specs.Prelude.{◌≡◌, not, ◌&&◌, ◌||◌, ltb, eqb, length};
 ghost use Rattle.rules.specs.declared.Message.TheVariants.{Order, TwoLeg};
 ghost use Rattle.rules.specs.Base.{held, all};
@@ -86,7 +86,7 @@ pub fn rests(numbers: &[u32], id: u32) -> bool
 
 // Refusals 11 to 13: of editions ----------------------------------------------------------------
 
-// An edition is above every edition kept.
+// An edition is above each that is kept.
 fn is_above(numbers: &[u32], edition: u32) -> bool
     requires { length numbers.now ≡ size }
     ensures { result ≡ all (λ k. ltb k.edition edition) (venue_of numbers.now).editions }

@@ -1,4 +1,4 @@
--- A loop of effects on the numbers of a venue: its invariant is what is left to do.
+-- A loop of effects upon the numbers of a venue: its invariant is what is left to do.
 use mathlib.Core.Path.{◌≡◌, refl, sym, ap, ◌∙◌}
 use mathlib.Core.List.{List}
 use Prim.Native.Nat.{ℕ, zero, suc}

@@ -1,4 +1,4 @@
-// Removes legging orders from the venue in its slice, and writes their records (68) by rising place.
+// Removal of legging orders from the venue in its slice: those that fail go, with their records (68) by rising place.
 ghost use Rattle.std.specs.Prelude.{◌≡◌, ◌||◌, ℕ, eqb, length};
 ghost use Rattle.rules.specs.declared.Verdict.TheVariants.{Fails};
 ghost use Rattle.rules.specs.Removal.{remove, remove_of, fail_if};
@@ -78,7 +78,7 @@ pub fn remove_at(
     remove_place(numbers, n2, cause, out, pos)
 }
 
-// The verdict of a cause's number; Stands for every other number.
+// The verdict of a number.
 pub fn verdict_by(x: u8) -> Verdict
     ensures { result ≡ verdict_by x }
 {

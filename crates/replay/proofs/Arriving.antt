@@ -1,4 +1,4 @@
--- An order that arrives: each of its turns, a trade or a hit, says what it does in its records and passes nothing over.
+-- An order that arrives: each of its turns, a trade or a hit, tells what it does and passes nothing over.
 use mathlib.Core.Path.{◌∙◌, ◌≡◌, ap, refl, subst, sym}
 use mathlib.Core.Bool.{Bool, false, not, true}
 use mathlib.Core.List.{List}

@@ -1,4 +1,4 @@
--- A cross says what it does, and respects the legs of both parties at its moment.
+-- A cross tells what it does, and respects the legs of both parties at its moment.
 use mathlib.Core.Path.{◌∙◌, ◌≡◌, ap, refl, subst, sym}
 use mathlib.Core.Bool.{false≢true, true}
 use mathlib.Core.Logic.{◌≢◌}

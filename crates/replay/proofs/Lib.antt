@@ -1,7 +1,7 @@
 -- Proofs of the statements of specs/, in the order in which each file uses the ones before it:
 --
 --   NegativeWitness  wrong sheets that the claims refuse
---   TellsLaws   `Tells v e`: the records of the effect e on v give the venue that it leaves, and each is as claimed at its moment
+--   TellsLaws   `Tells v e`: the records of the effect e upon v tell the venue that it leaves, and each is as claimed at its moment
 --   Placing     removals and generation, which change legging places alone
 --   Lessening   to lessen the order of an id is to fill its place; ids are apart
 --   Passing     what no trade passes over, by who takes

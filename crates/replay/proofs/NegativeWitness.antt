@@ -1,4 +1,4 @@
--- The wrong sheets, by computation: the conditions on the wrong record, at the places where it fails.
+-- The wrong sheets, by computation: what is asked of the wrong record, at the places where it fails.
 use mathlib.Core.Path.{◌∙◌, ◌≡◌, ap, refl, sym}
 use mathlib.Core.Bool.{Bool, ◌&&◌, false, false≢true, not, true, true≢false}
 use mathlib.Core.List.{List, [], ◌++◌, ◌∷◌}

@@ -1,4 +1,4 @@
--- What an accepted message does is in its records, except that orders show again, and no trade of it passes anything over.
+-- What an accepted message does is told by its records, but that orders show again, and no trade of it passes anything over.
 use mathlib.Core.Path.{◌∙◌, ◌≡◌, ap, refl, subst, sym}
 use mathlib.Core.Bool.{◌||◌, false, not, true}
 use mathlib.Core.List.{List, [], ◌∷◌}
@@ -47,7 +47,7 @@ use Rattle.replay.proofs.Working.{tells-sweep, tells-work}
 
 -- Settling and after --------------------------------------------------------------------------
 
--- the records of the effect e on u, in the message of a number, lead to the venue `left`, which is what e leaves except that its orders have not shown again
+-- the records of the effect e upon u, in the message of a number, lead to the venue `left`, which is what e leaves but that its orders have not shown again
 pub record Ends (number : ℕ) (u : Venue) (e : Effect) : Type 0 where
   pub left : Venue
   pub shows : e.venue ≡ show_again left
@@ -63,7 +63,7 @@ module _ {number : ℕ} where
   unfolding settle
   ends-settle u = ends-places u (settle u) (places-remove number (verdict (show_again u)) (show_again u))
 
-  -- first what the records say, and then what ends
+  -- first what tells, and then what ends
   ends-then : (u : Venue) (e : Effect) (f : Venue → Effect) → Tells u e → Ends number e.venue (f e.venue) → Ends number u (e ⟫ f)
   unfolding ◌⟫◌
   ends-then u e f a b = record {

@@ -1,4 +1,4 @@
--- Effects that change legging places and generations alone: removals, and what is generated. Their records say it on any venue that has the same of these.
+-- Effects that change legging places and generations alone: removals, and what is generated. Their records tell it upon any venue that has the same of these.
 use mathlib.Core.Path.{◌∙◌, ◌≡◌, ap, refl, sym}
 use mathlib.Core.Bool.{Bool, ◌&&◌, false, true}
 use mathlib.Core.List.{List, [], ◌++◌, ◌∷◌, append_assoc}
@@ -84,7 +84,7 @@ tells-remove f v x = record { replays = all_go f v x [] v.legging 0 refl; moment
 unfoldable pub likened : (w v : Venue) → Venue
 likened w v = with_generations (with_legging w v.legging) v.generations
 
--- the effect e on v, in the message of a number, changes these alone, and on any venue with v's its records say how
+-- the effect e upon v, in the message of a number, changes these alone, and upon any venue with v's its records tell how
 pub record Places (number : ℕ) (v : Venue) (e : Effect) : Type 0 where
   pub keeps : e.venue ≡ likened v e.venue
   pub tells : (w : Venue) (x : State) → x.number ≡ number → TellsFrom x (likened w v) (record { venue = likened w e.venue; reports = e.reports })
@@ -109,7 +109,7 @@ module _ (number : ℕ) where
         (a.tells w x n) (b.tells w x n);
   }
 
-  -- a 67: its legging order is put at its place, and counts
+  -- a 67: the legging order that it tells is given its place, and counts
   places-made : (l : Legging) (s d shown : ℕ) (v : Venue) →
       Places number v (report (generated l.parent s d l.price shown l.quantity) (counted number s (placed (place_of s d) l v)))
   unfolding report counted generations_of placed likened with_legging with_generations

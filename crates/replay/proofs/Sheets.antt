@@ -1,4 +1,4 @@
--- The theorems: of one message on a sound venue, and of every list of calls.
+-- The theorems: of one message upon a sound venue, and of every list of calls.
 use mathlib.Core.Path.{◌∙◌, ◌≡◌, ap, refl, subst, sym}
 use mathlib.Core.Bool.{Bool, false, true}
 use mathlib.Core.List.{List, [], ◌++◌, ◌∷◌, append_assoc, append-nil}

@@ -1,4 +1,4 @@
--- `Tells v e`: the records of the effect e on v give the venue that it leaves, and each is as claimed at its moment, whatever the message; `TellsFrom x v e`,
+-- `Tells v e`: the records of the effect e upon v tell the venue that it leaves, and each is as claimed at its moment, whatever the message; `TellsFrom x v e`,
 -- where the books of the state x are v. One effect after another, turns, sweeps.
 use mathlib.Core.Path.{◌∙◌, ◌≡◌, ap, refl, subst, sym}
 use mathlib.Core.List.{List, [], ◌++◌, ◌∷◌}
@@ -62,11 +62,11 @@ tells-then v e f a b x = from_then x v e f (a x) (b x)
 
 -- Turns and sweeps ----------------------------------------------------------------------------
 
--- nothing is required
+-- nothing is asked
 abbrev pub Any : Venue → Type 0
 Any v = Unit {0}
 
--- a turn has `Tells`, and keeps P
+-- a turn tells, and keeps P
 abbrev pub TellsTurn : (Venue → Type 0) → Venue → Turn → Type 0
 TellsTurn P v ended = Unit {0}
 TellsTurn P v (turned e) = Tells v e × P e.venue

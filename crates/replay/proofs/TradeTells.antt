@@ -1,4 +1,4 @@
--- Trades, pairs and hits say what they do, and pass nothing over.
+-- Trades, pairs and hits tell what they do, and pass nothing over.
 use mathlib.Core.Path.{◌∙◌, ◌≡◌, ap, subst, sym}
 use mathlib.Core.Bool.{false, true}
 use mathlib.Core.Logic.{◌≢◌}

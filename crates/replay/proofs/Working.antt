@@ -1,4 +1,4 @@
--- A complex order at work: its touch and its legging in say what they do after its crosses, and no trade passes anything over.
+-- A complex order at work: its touch and its legging in tell what they do after its crosses, and no trade passes anything over.
 use mathlib.Core.Path.{◌∙◌, ◌≡◌, ap, refl, subst, sym}
 use mathlib.Core.Bool.{◌&&◌, false, true, true≢false}
 use mathlib.Core.Logic.{inl, inr}

@@ -17,7 +17,6 @@ use Rattle.replay.specs.Replay.{State, next, upon}
 
 -- The maker of a trade stands in the books at that moment, on side e of series s at price p, with k contracts or more: it is a regular order that rests there,
 -- or the complex order of the legging order that stands there.
--- rule: (i)1
 pub data MakerStands (v : Venue) (s e p k maker : ℕ) : Type 0 where
   resting : (i : ℕ) → rests_at s e (regular_at v i) ≡ true → (regular_at v i).id ≡ maker → (regular_at v i).price ≡ p → k ≤ (regular_at v i).quantity →
       MakerStands v s e p k maker
@@ -26,7 +25,6 @@ pub data MakerStands (v : Venue) (s e p k maker : ℕ) : Type 0 where
 
 -- (e): "At one price all shown size trades by id, then, in trades of its own, all reserve by id, then the legging order": of a trade of k contracts with the
 -- order that rests at place i, on side e of series s at price p. "Then the legging order" is `hit` below.
--- rule: (e)2
 pub record InTurn (v : Venue) (s e p k i : ℕ) : Type 0 where
   -- while it shows any, the trade is of what it shows, and of those at that price that show none is earlier
   pub own : held (shown_size (regular_at v i)) ≡ true → k ≤ shown_size (regular_at v i)
@@ -35,10 +33,9 @@ pub record InTurn (v : Venue) (s e p k i : ℕ) : Type 0 where
   pub all_shown : held (shown_size (regular_at v i)) ≡ false → (n : ℕ) → rests_at s e (regular_at v n) ≡ true → (regular_at v n).price ≡ p → held (shown_size (regular_at v n)) ≡ false
   pub reserve_by_id : held (shown_size (regular_at v i)) ≡ false → (n : ℕ) → rests_at s e (regular_at v n) ≡ true → (regular_at v n).price ≡ p → (regular_at v i).id ≤ (regular_at v n).id
 
--- a trade of k contracts at price p in series s by a taker of side d, on the books v: it takes the side opposite to d
--- rule: (i)1
+-- a trade of k contracts at price p in series s by a taker of side d, upon the books v: it takes the side opposite to d
 pub record NonePassedOver (v : Venue) (s d p k taker maker : ℕ) : Type 0 where
-  -- the maker stands there: if the books had lost it, the tests below would say nothing
+  -- the maker stands there: were it lost from the books, what is asked below would say nothing
   pub stands : MakerStands v s (opposite d) p k maker
   -- "no … strictly better shown … price stood on that side"
   pub shown : (i : ℕ) → shows_at s (opposite d) (regular_at v i) ≡ true → better (opposite d) (regular_at v i).price p ≡ false
@@ -57,14 +54,13 @@ pub record NonePassedOver (v : Venue) (s d p k taker maker : ℕ) : Type 0 where
 
 -- (b): "A cross is made only if neither party's net is above what best regular prices of both legs would give that party, where both legs have one":
 -- the taker's net n, and the maker's, minus that
--- rule: (b)1
 pub record BothRespected (v : Venue) (taker maker : ℕ) (n : ℤ) : Type 0 where
   pub taking : (i : ℕ) → is_complex_of taker (complex_at v i) ≡ true → Respects v (complex_at v i) n
   pub resting : (i : ℕ) → is_complex_of maker (complex_at v i) ≡ true → Respects v (complex_at v i) (neg_ℤ n)
 
 -- Every record --------------------------------------------------------------------------------
 
--- the test of a record on the books just before it
+-- what is asked of a record upon the books just before it
 abbrev pub AtItsMoment : Venue → Report → Type 0
 AtItsMoment v (answer number refusal mask count) = Unit {0}
 AtItsMoment v (trade series side price quantity taker maker) = NonePassedOver v series side price quantity taker maker
@@ -82,8 +78,7 @@ AtEach x (r ∷ rs) = AtItsMoment x.books r × AtEach (next r x) rs
 
 -- The claim -----------------------------------------------------------------------------------
 
--- of one message on a sound venue, and of every list of calls
--- rule: (i)1
+-- of one message upon a sound venue, and of every list of calls
 pub record NoBetterPassedOver : Type 0 where
   pub message : (v : Venue) → SoundVenue v → (number : ℕ) (message : List ℕ) →
       AtEach (upon v (message ∷ [])) (step v number message).effect.reports

@@ -1,5 +1,5 @@
 -- Wrong sheets that the claims refuse. Each is the true sheet of one session up to some record, and then one record that is wrong: for each part of what is
--- tested on a trade and on a cross at its moment there is one that this part refuses. Given by computation.
+-- asked of a trade and of a cross at its moment there is one that this part refuses. Given by computation.
 use Rattle.std.specs.Prelude.{◌≡◌, ◌≢◌, List, [], ◌++◌, ◌∷◌, ℕ, ℤ, negsuc, pos, drop, take}
 use Rattle.rules.specs.declared.Message.{Message}
 use Rattle.rules.specs.declared.Message.TheVariants.{TwoLeg}

@@ -50,21 +50,19 @@ entered number (Increment s i e) v = set_figure number s i e v
 entered number (Percent x e) v = set_figure number percentage x e v
 entered number (LimitedSweep n) v = v
 
--- a message's last steps, which have no record: each order shows again, and the gaps are closed
--- rule: (i)2
+-- a message's last steps, which no record tells: each order shows again, and the gaps are closed
 unfoldable pub finished : Venue → Venue
 finished v = close_gaps (show_again v)
 
 -- A sheet -------------------------------------------------------------------------------------
 
--- the books at a place of the sheet, the number of the last 64 before it (0: none), and the messages whose 64 comes after it
+-- the books at a place of the sheet, the number told by the last 64 before it (0: none), and the messages whose 64 comes after it
 pub record State : Type 0 where
   pub books : Venue
   pub number : ℕ
   pub messages : List (List ℕ)
 
 -- a 64: the message before it ends, and its own begins where it was accepted
--- rule: (i)2
 unfoldable pub after_answer : (number refusal : ℕ) → State → State
 after_answer number refusal x =
     let v = finished x.books in
@@ -79,7 +77,6 @@ unfoldable pub noted : State → Venue → State
 noted x v = record { books = v; number = x.number; messages = x.messages }
 
 -- one record more. A complex order that takes, or whose legging order is taken, is lessened by its 66. A 67 counts as of the message at hand.
--- rule: (i)2
 unfoldable pub next : Report → State → State
 next (answer number refusal mask count) x = after_answer number refusal x
 next (trade series side price quantity taker maker) x = noted x (lessen_order maker quantity (lessen_order taker quantity x.books))
@@ -101,9 +98,8 @@ upon v ms = record { books = v; number = 0; messages = ms }
 
 -- The claim -----------------------------------------------------------------------------------
 
--- the sheet has all that happened: of one message on a sound venue, and of every list of calls, the books after the last record, its message finished,
+-- the sheet tells all that happened: of one message upon a sound venue, and of every list of calls, the books after the last record, its message finished,
 -- are the venue left
--- rule: (i)2
 pub record Replays : Type 0 where
   pub message : (v : Venue) → SoundVenue v → (number : ℕ) (message : List ℕ) →
       finished (replay (upon v (message ∷ [])) (step v number message).effect.reports).books ≡ (step v number message).effect.venue

@@ -1,1 +1,1 @@
-// Theorems about a sheet replayed: definitions and statements in specs/, proofs in proofs/. There is no code here: hosts replay sheets with code of their own.
+// Theorems about a sheet replayed: definitions and statements in specs/, proofs in proofs/. There is no code: hosts replay sheets by their own.

@@ -14,7 +14,7 @@ use Rattle.rules.specs.Base.{if◌then◌else◌, held}
 use Rattle.rules.specs.Words.{buy, no_regular}
 use Rattle.rules.specs.Prices.{better, better_of, shown_size, shows_at, best_in}
 
--- as a statement about numbers; b says whether the side is buy
+-- as a statement about numbers; b tells whether the side is buy
 Better : Bool → ℕ → ℕ → Type 0
 Better true a b = b < a
 Better false a b = (0 < a) × ((b ≡ 0 → ⊥) → a < b)

@@ -14,7 +14,7 @@ use Rattle.rules.specs.Removal.{goes, leavers, remove}
 use Rattle.rules.specs.Standing.{settle, show_again, verdict}
 use Rattle.rules.proofs.Cases.{if-by}
 
--- removals alone, by rising place, each place m (side m % 2 of series m / 2) at least n: so no place is named twice
+-- removals alone, by rising place, each place m (side m % 2 of series m / 2) at least n: so no place is told twice
 pub data ByPlace : (n : ℕ) → List Report → Type 0 where
   none : {n : ℕ} → ByPlace n []
   next : {n : ℕ} (m : ℕ) → n ≤ m → (parent : ℕ) (c : Cause) {rs : List Report} → ByPlace (suc m) rs → ByPlace n (removed parent (m / 2) (m % 2) c ∷ rs)

@@ -87,7 +87,7 @@ module _ {ℓ} (Q : Outcome → Type ℓ) (v : Venue) (n room : ℕ) (bs : List 
       go false a false b true c = last (within-room (suc n) room e.reports b) (eqb-true x.refused 1 c)
       go false a false b false c = on (within-room (suc n) room e.reports b) (eqb-false x.refused 1 c)
 
-  -- a run on a venue
+  -- a run upon a venue
   pub run_upon_from-by : (is_taken v n ≡ false → Q (ends 9 v)) → (is_taken v n ≡ true → Q (run_from (length bs) v n room bs)) → Q (run_upon_from v n room bs)
   unfolding run_upon_from
   run_upon_from-by unsound runs = go (is_taken v n) refl
@@ -132,7 +132,7 @@ unfolding run_from
 run_none zero v n room = refl
 run_none (suc fuel) v n room = refl
 
--- on a sound venue, a message that follows and does not exceed is done
+-- upon a sound venue, a message that follows and does not exceed is done
 pub one_from-done : (v : Venue) (n room : ℕ) (bs : List ℕ) → sound v ≡ true → follows (suc n) v ≡ true → exceeds (suc n) room (step v (suc n) bs).effect.reports ≡ false →
     one_from v n room bs ≡ after (step v (suc n) bs).effect (ends (step v (suc n) bs).refused (step v (suc n) bs).effect.venue)
 unfolding one_from

@@ -1,4 +1,4 @@
--- Closing gaps: where each order comes from, and that no best price, size, find by id or sum changes, and so no verdict.
+-- Closing gaps: where each order comes from, and that no best price, size, find by id or sum changes, hence no verdict.
 use mathlib.Core.Path.{◌≡◌, refl, sym, ap, ◌∙◌}
 use mathlib.Core.Bool.{Bool, true, false, ◌&&◌, true≢false}
 use mathlib.Core.List.{List, [], ◌∷◌, ◌++◌}

@@ -288,7 +288,7 @@ module _ (i : ℕ) (v : Venue) where
 
 -- Loops ---------------------------------------------------------------------------------------
 
--- a turn on v leaves P, and costs nothing beside what `extra` falls by
+-- a turn upon v leaves P, and costs nothing beside what `extra` falls by
 abbrev pub Turned : (a b : ℕ) (P : Venue → Type 0) (extra : Venue → ℕ) → Venue → Turn → Type 0
 Turned a b P extra v ended = Unit {0}
 Turned a b P extra v (turned e) = P e.venue × (spent a b e + extra e.venue ≤ worth a b v + extra v)

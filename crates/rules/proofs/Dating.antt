@@ -400,7 +400,7 @@ steps-generate number i v = steps-same v _ (has-generate v.editions number i v r
 pub steps-swept : (places : List ℕ) (v : Venue) → Stepped v → Stepped (each_of work places v ⟫ settle).venue
 steps-swept places v h = steps-settled (each_of work places v) (keeps-each_of Stepped work steps-work places v h)
 
--- What was in force stays known ---------------------------------------------------------------
+-- What was in force stays told ----------------------------------------------------------------
 
 gt-leb : (a b : ℕ) → b < a → leb a b ≡ false
 gt-leb a b h = go (leb a b) refl

@@ -81,7 +81,7 @@ figure-other f e v free ne = last_set f (base_figure f) v.editions (free_edition
     none true = ne_eqb e.figure f ne
     none false = refl
 
--- What is known of a message number -----------------------------------------------------------
+-- What is told of a message number ------------------------------------------------------------
 
 keep_all : (n : ℕ) (es : List Edition) → all (λ e. leb e.message n) es ≡ true → keep (λ e. leb e.message n) es ≡ es
 unfolding all keep

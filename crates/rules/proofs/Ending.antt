@@ -1,6 +1,6 @@
 -- The fuel of each loop is enough: each turn trades at least one contract of its order, so what document 01 goes on with "while" has come to
 -- its end. `after-matching`: after an order has met the other side nothing there reaches it. `after-crossing`: after crossing no order crosses with it.
--- `after-legging-in`: after legging in the best prices no longer net. None of them requires anything of the venue.
+-- `after-legging-in`: after legging in the best prices no longer net. None of them asks anything of the venue.
 use mathlib.Core.Path.{◌∙◌, ◌≡◌, ap, refl, subst, sym}
 use mathlib.Core.Bool.{Bool, ◌&&◌, ◌||◌, false, false≢true, not, true, true≢false}
 use mathlib.Core.List.{List, [], ◌∷◌}
@@ -38,7 +38,7 @@ use Rattle.rules.proofs.Units.{units-open}
 
 -- Loops ---------------------------------------------------------------------------------------
 
--- a turn on v that makes a size less
+-- a turn upon v that makes a size less
 abbrev Smaller : (Venue → ℕ) → Venue → Turn → Type 0
 Smaller size v ended = Unit {0}
 Smaller size v (turned e) = size e.venue < size v

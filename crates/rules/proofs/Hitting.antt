@@ -108,7 +108,7 @@ module _ (v : Venue) (i k : ℕ) (l : Legging) where
   hit-quiet : (f : Report → ℕ) → ((a b c d g h : ℕ) → f (trade a b c d g h) ≡ 0) → total f (hit i l k v).reports ≡ total f pairing.reports
   hit-quiet f t = omega (arith, hit-total f, chain-silent f t chn, t o.series o.side l.price k o.id q.id)
 
-  -- The hit, record by record, on the venue as it stands: its trade; k contracts of the other leg, which the incoming order's own fill changes in
+  -- The hit, record by record, upon the venue as it stands: its trade; k contracts of the other leg, which the incoming order's own fill changes in
   -- nothing; the 66; and the removals.
   after-trades : pairing.reports ≡ pair q.id net-of k ∷ (remove_of q.id Executed v).reports
   unfolding pair_off report ◌⟫◌ remove_of remove fill_complex with_complex

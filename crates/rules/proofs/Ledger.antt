@@ -1,4 +1,4 @@
--- The ledger: of every id, what is open falls by what the records say of it. `Moves v e`: the effect e on v does so.
+-- The ledger: of every id, what is open falls by what the records say of it. `Moves v e`: the effect e upon v does so.
 use mathlib.Core.Path.{◌∙◌, ◌≡◌, ap, refl, sym}
 use mathlib.Core.Bool.{true}
 use mathlib.Core.List.{List, [], ◌++◌}

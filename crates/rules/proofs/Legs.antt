@@ -129,7 +129,7 @@ generated-writes c v e le g =
     let m = sum_mono (λ x. of_complex x + of_even x) both_legs legs-worth v.complex in
     omega (arith, sum-plus of_complex of_even v.complex)
 
--- the generation of a sweep, on w, for orders chosen on v
+-- the generation of a sweep, upon w, for orders chosen upon v
 pub generation-writes : (number : ℕ) (v w : Venue) → length w.complex ≡ length v.complex →
     total record_length (each_of (generate number) (resting_places v) w).reports ≤ worth 0 0 w
 generation-writes number v w len = generated-writes _ w _ (sweep-once both_legs v w.complex len) (all-generated number (resting_places v) w)

@@ -30,7 +30,7 @@ use Rattle.rules.proofs.TradingLaws.{Chain, chain-elsewhere, chain-fewer, chain-
 
 -- The 66 and the removals ---------------------------------------------------------------------
 
--- what records say of a pair: k pairs of this id, and nothing else is counted
+-- what records tell of a pair: k pairs of this id, and nothing else is counted
 pub record Tells (id k : ℕ) (rs : List Report) : Type 0 where
   pub pairs : (y : ℕ) → total (paired y) rs ≡ (if eqb id y then k else 0)
   pub contracts0 : (y s : ℕ) → total (contracts y s) rs ≡ 0

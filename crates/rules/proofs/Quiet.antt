@@ -1,4 +1,4 @@
--- What effects write, on any venue: what holds of every record but answers, 67, 70 and 72, holds of all that they write but in generation and crossing.
+-- What effects write, upon any venue: what holds of every record but answers, 67, 70 and 72, holds of all that they write but in generation and crossing.
 -- And no effect writes an answer: the only one is the message's own.
 use mathlib.Core.List.{List}
 use Prim.Native.Nat.{ℕ, zero, suc}

@@ -1,4 +1,4 @@
--- A message leaves the venue's arrays of their lengths, on every venue: "At most 128 regular and 32 complex orders rest", "16 places", "up to 32 editions".
+-- A message leaves the venue's arrays of their lengths, upon every venue: "At most 128 regular and 32 complex orders rest", "16 places", "up to 32 editions".
 use mathlib.Core.Path.{◌≡◌, ◌∙◌}
 use mathlib.Core.Bool.{◌&&◌}
 use mathlib.Core.List.{List}

@@ -150,7 +150,7 @@ closed-showing : (v : Venue) → Showing v → Showing (close_gaps v)
 unfolding Showing
 closed-showing v z i = subst (λ (o : Regular). shows_fully o ≡ true) (sym (was v i)) (z (fr v i))
 
--- an accepted message leaves each order so on every venue, and a refused one leaves it as it was
+-- an accepted message leaves each order so upon every venue, and a refused one leaves it as it was
 pub step-showing : (v : Venue) (number : ℕ) (bs : List ℕ) → Showing v → Showing (step v number bs).effect.venue
 unfolding step answered accept nothing ◌⟫◌
 step-showing v number bs z =

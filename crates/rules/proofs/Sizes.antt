@@ -25,7 +25,7 @@ use Rattle.rules.proofs.Tests.{and-false, and_l, and_r, and-true, free-none, hel
 
 -- What an order shows -------------------------------------------------------------------------
 
--- All that is used of the shown size: none above does more than cite these laws.
+-- All that is asked of the shown size: none above does more than cite these laws.
 pub shown-most : (o : Regular) → shown_size o ≤ o.quantity
 unfolding shown_size
 shown-most o = omega arith

@@ -73,7 +73,7 @@ module _ (a b : ℕ) (pays : 22 ≤ a) (x s d p : ℕ) where
   pub at-price-cheap : (fuel k : ℕ) (v : Venue) → spent a b (trade_at_price fuel x s d p k v) ≤ worth a b v + 22
   at-price-cheap fuel k v = (takes-cheaply fuel k v).0
 
--- where it takes all that there is at the price, no maker shows any more: with some there it also pays for a trade and a pair
+-- where it takes all that there is at the price, no maker shows any more: with some there it pays for a trade and a pair besides
 module _ (a b : ℕ) (pays : per_regular ≤ a) (x s d p : ℕ) where
   abbrev size : Venue → ℕ
   size v = size_in s (opposite d) p v.regular

@@ -69,7 +69,7 @@ unfolding pushed
 allowed-add n zero k l a b = rw (zero-add k) b
 allowed-add n (suc j) k l a b = rw (suc-add j k) (a.0, allowed-add n j k (one_more n l) a.1 b)
 
--- of every series: what the records of an effect say is what is counted, and was allowed
+-- of every series: what the records of an effect tell is what is counted, and was allowed
 pub record Tracks (n : ℕ) (v : Venue) (e : Effect) : Type 0 where
   pub size : length e.venue.generations ≡ length v.generations
   pub pushes : (s : ℕ) → s < length v.generations → generations_of e.venue s ≡ pushed n (total (generated_of s) e.reports) (generations_of v s)
@@ -180,7 +180,7 @@ module _ (g : List Generations) where
   unfolding fill_regular fill_complex remove show_again with_regular with_complex with_legging
   had-lasts = record { fill_r = λ i k v h. h; fill_c = λ i k v h. h; gone = λ f v h. h; again = λ v h. h }
 
--- on a venue with v's counts
+-- upon a venue with v's counts
 module _ (n : ℕ) (v : Venue) where
   settles : (w : Venue) → w.generations ≡ v.generations → Tracks n v (settle w)
   settles w e = tracks-still n v (settle w) (all-settle Plain plain w) (keeps-settle (had-lasts v.generations) w e)
@@ -234,7 +234,7 @@ tracks-answered n x v e t = record {
   allowed = λ s h. rw (zero-add (total (generated_of s) e.reports)) (t.allowed s h);
 }
 
--- one message: what its records say is what is counted, and each was under the ceiling
+-- one message: what its records tell is what is counted, and each was under the ceiling
 pub tracks-step : (v : Venue) (n : ℕ) (bs : List ℕ) → Tracks n v (step v n bs).effect
 unfolding step
 tracks-step v n bs =
@@ -329,7 +329,7 @@ unfolding all
 all_small n [] f h = refl
 all_small n (x ∷ l) f h = rw (le-leb x 4294967295 (let z = leb-true x n (and_l (leb x n) _ h) in omega arith), all_small n l f (and_r (leb x n) _ h))
 
--- as the tests require
+-- as the tests ask
 levels-out : (v : Venue) (n : ℕ) → 0 < n → ((s : ℕ) → length (generations_of v s) ≡ 20) → generations_sound v ≡ true → follows n v ≡ true → Levels n v
 unfolding generations_sound follows generations_of
 levels-out v n some len sound next s =
@@ -475,7 +475,7 @@ step-reached v n bs x h =
 
 -- A limited sweep's count ---------------------------------------------------------------------
 
--- "the number looked at": as many places as it says
+-- "the number looked at": as many places as it tells
 pub looked-count : (n : ℕ) (v : Venue) → length (take n (going_round v)) ≡ examined n v
 unfolding examined
 looked-count n v = length-take n (going_round v)

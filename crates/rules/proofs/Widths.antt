@@ -182,7 +182,7 @@ less_c-fits k c f = record {
     middle true false b' x y z h k = absurd (false≢true h)
     middle false b b' x y z h k = absurd (false≢true h)
 
--- one part of the venue replaced
+-- one part of the venue anew
 module _ {v : Venue} (r : Ranged v) where
   with-regular : (l : List Regular) → ((i : ℕ) → RegFits (get_or l i no_regular)) → Ranged (with_regular v l)
   unfolding with_regular

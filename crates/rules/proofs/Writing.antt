@@ -1,4 +1,4 @@
--- What each effect writes: records that fit their widths, and the fields stay in range. Nothing else is required of the venue.
+-- What each effect writes: records that fit their widths, and the fields stay in range. Nothing is asked of the venue but that.
 use mathlib.Core.Path.{◌≡◌, subst, sym}
 use mathlib.Core.Bool.{Bool, ◌&&◌, false, true}
 use mathlib.Core.Logic.{◌⊎◌, inl, inr}

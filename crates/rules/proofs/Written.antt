@@ -124,7 +124,7 @@ well-apart c z =
     let g : not (eqb c.series1 c.series2) ≡ true = search (and_l, and_r, z) depth 14 in
     eqb-false c.series1 c.series2 (not-true _ g)
 
--- what is required of a venue: its places, that each legging order has its parent, and each complex order its legs in two series
+-- what is asked of a venue: its places, that each legging order has its parent, and each complex order its legs in two series
 pub record Asked (v : Venue) : Type 0 where
   pub places32 : length v.complex ≡ 32
   pub housed : (n : ℕ) → Housed n v

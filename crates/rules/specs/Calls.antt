@@ -1,6 +1,6 @@
 -- Document 01, "Refusals": "Two calls: a run from fresh over a message list, and one message upon a venue held by value, the caller giving
--- how many messages went before it, a u32; its number is one more." Refusals 9 and 10. Beyond the documents, a run on a venue that a host
--- holds. And document 02 (d)'s call, which returns the settings.
+-- how many messages went before it, a u32; its number is one more." Refusals 9 and 10. Beyond the documents, a run upon a venue that a host
+-- holds. And document 02 (d)'s call, which tells the settings.
 use Rattle.std.specs.Prelude.{Bool, true, false, not, ◌&&◌, ◌||◌, List, [], ◌∷◌, ◌++◌, map, ℕ, zero, suc, ◌-◌, ltb, eqb, length, drop, replicate}
 use Rattle.rules.specs.declared.Venue.{Venue}
 use Rattle.rules.specs.declared.Returned.{Returned}
@@ -15,7 +15,6 @@ use Rattle.rules.specs.Step.{step}
 use Rattle.rules.specs.Sound.{sound, follows}
 
 -- how a call goes: its number, the messages done, the venue, and the records of these messages
--- rule: R14
 pub record Outcome : Type 0 where
   pub number : ℕ
   pub done : ℕ
@@ -23,14 +22,12 @@ pub record Outcome : Type 0 where
   pub reports : List Report
 
 -- what a caller sees of it: what the call returns, and the report memory
--- rule: R14
 pub record Call : Type 0 where
   pub returned : Returned
   pub report : List ℕ
 
 -- "Both return a number, messages done (refused ones counted), bytes written and the venue"; a report memory of this length holds
 -- the records' bytes and then zeros
--- rule: B18, R14
 unfoldable pub called : (room : ℕ) → Outcome → Call
 called room o = record {
   returned = record { number = o.number; done = o.done; written = length (encode_all o.reports); venue = o.venue };
@@ -39,17 +36,14 @@ called room o = record {
 
 -- 10: "the next message's records, its 64 included, exceed the report bytes left, or its number would pass 4,294,967,295"; "where even a
 -- refusal's 64 doesn't fit, the answer is 10"
--- rule: R0, R10
 unfoldable pub exceeds : (number room : ℕ) → List Report → Bool
 exceeds number room rs = ltb 4294967295 number || ltb room (length (encode_all rs))
 
 -- the call ends with a number before any further message
--- rule: R9, R10
 unfoldable pub ends : (number : ℕ) → Venue → Outcome
 ends number v = record { number = number; done = 0; venue = v; reports = [] }
 
 -- one message done, and then how the rest of the call goes
--- rule: B18
 unfoldable pub after : Effect → Outcome → Outcome
 after e r = record { number = r.number; done = suc r.done; venue = r.venue; reports = e.reports ++ r.reports }
 
@@ -70,9 +64,8 @@ not_taken = ends 9
 abbrev pub before_exceeding : Venue → Outcome
 before_exceeding = ends 10
 
--- How a run goes on over the bytes bs on v, after n messages, with `room` report bytes left. Where no end is reached, the message is done
+-- How a run goes on over the bytes bs upon v, after n messages, with `room` report bytes left. Where no end is reached, the message is done
 -- and the run goes on after it. The fuel is the length of bs: a message that does not end the run has at least 4 bytes.
--- rule: B17, R1, R10, R12
 unfoldable pub run_from : (fuel : ℕ) → Venue → (n room : ℕ) → (bs : List ℕ) → Outcome
 run_from zero v n room bs = end_of_list v
 run_from (suc fuel) v n room bs =
@@ -89,17 +82,16 @@ run_from (suc fuel) v n room bs =
     ]
 
 -- "a run from fresh over a message list"
--- rule: R12
 unfoldable pub run : (room : ℕ) → List ℕ → Call
 run room bs = called room (run_from (length bs) fresh_venue 0 room bs)
 
--- a call on v, after n messages, does not get 9: v is sound, and the number n + 1 is above every kept one.
+-- a call upon v, n messages having gone before, does not get 9: v is sound, and the number n + 1 is above every kept one.
 -- 9: "one-message call given an unsound venue": "number 9; the venue as given, all report bytes 0".
 -- 02 (d): "A one-message call whose number is not above every kept edition's gets 9." (m): "must be above every generation's, else 9"
 abbrev pub is_taken : Venue → (n : ℕ) → Bool
 is_taken v n = sound v && follows (suc n) v
 
--- A run on a venue, after n messages: "9 before all", as in the one-message call, and then the messages one by one, as a run
+-- A run upon a venue, n messages having gone before: "9 before all", as in the one-message call, and then the messages one by one, as a run
 -- does them. An empty list gets 9 where the venue is not taken, and else 0. Where n is 4,294,967,295 there is no first number:
 -- every kept number is below n + 1, so only an unsound venue gets 9. As 10 comes before a message only, an empty list gets 0 there too.
 -- A run from fresh is the case of the fresh venue and n = 0 (demands Agree: `FromFresh`).
@@ -109,8 +101,7 @@ run_upon_from v n room bs = if not (is_taken v n) then not_taken v else run_from
 unfoldable pub run_upon : Venue → (n room : ℕ) → List ℕ → Call
 run_upon v n room bs = called room (run_upon_from v n room bs)
 
--- "one message upon a venue", after n messages: "9 before all"; "a one-message call's is 9, 10 or its message's own"
--- rule: R0, R9, R10, R12, (d)5
+-- "one message upon a venue", n messages having gone before: "9 before all"; "a one-message call's is 9, 10 or its message's own"
 unfoldable pub one_from : Venue → (n room : ℕ) → List ℕ → Outcome
 one_from v n room bs =
     let a = step v (suc n) bs in
@@ -118,13 +109,11 @@ one_from v n room bs =
     else if exceeds (suc n) room a.effect.reports then before_exceeding v
     else after a.effect (ends a.refused a.effect.venue)
 
--- rule: R12
 unfoldable pub one : Venue → (n room : ℕ) → List ℕ → Call
 one v n room bs = called room (one_from v n room bs)
 
 -- Document 02 (d): "tells the eight increments and the percent in force at any message number"; "asked of an unsound venue, the settings
 -- are told as 9 and zeros"
--- rule: (d)3, (d)6
 unfoldable pub settings : Venue → (number : ℕ) → Settings
 settings v n =
     if sound v

@@ -17,7 +17,6 @@ use Rattle.rules.specs.Trading.{fill_regular, fill_complex, free_complex, put_co
 use Rattle.rules.specs.Generation.{generate}
 
 -- a series of c is closed
--- rule: R6, C0
 unfoldable pub any_closed : Venue → Complex → Bool
 any_closed v c = eqb (status_of v c.series1) closed || eqb (status_of v c.series2) closed
 
@@ -25,7 +24,6 @@ any_closed v c = eqb (status_of v c.series1) closed || eqb (status_of v c.series
 
 -- "with the same series and in each the reversed side, whichever leg is named first"; request (g): "only with the same series and ratios
 -- reversed in side"
--- rule: C2, (g)3
 unfoldable pub reversed : Complex → Complex → Bool
 reversed a b =
     (eqb a.series1 b.series1 && eqb a.side1 (opposite b.side1) && eqb a.ratio1 b.ratio1
@@ -35,7 +33,6 @@ reversed a b =
 
 -- Request (b): "A cross is made only if neither party's net is above what best regular prices of both legs would give that party, where
 -- both legs have one." For the party c, dealt at net t.
--- rule: (b)1
 unfoldable pub respects_legs : Venue → Complex → (t : ℤ) → Bool
 respects_legs v c t =
     let a = best_regular v c.series1 (opposite c.side1) in
@@ -44,7 +41,6 @@ respects_legs v c t =
 
 -- "N + their N ≥ 0, both nets in band": the resting order m is a candidate for c. Dealt "at the resting limit", m's net is its N and c's
 -- is minus that.
--- rule: C2, (b)1
 unfoldable pub crosses : Venue → Complex → Complex → Bool
 crosses v c m =
     held m.quantity
@@ -56,13 +52,11 @@ crosses v c m =
     && respects_legs v m m.limit
 
 -- "take the highest N, then earliest"
--- rule: C3
 unfoldable pub limit_then_id : Complex → Complex → Bool
 limit_then_id a b = lt_z b.limit a.limit || (not (lt_z a.limit b.limit) && earlier_complex a b)
 
 -- The orders at places i and j cross for k: "Any cross or pair removes the legging orders of each party (3), right after its 70 or 66,
 -- the taker's first."; (C)(4)(iii)
--- rule: C6, C3
 unfoldable pub cross : (i j k : ℕ) → Venue → Effect
 cross i j k v =
     let c = complex_at v i in
@@ -72,7 +66,6 @@ cross i j k v =
     ⟫ remove_of m.id Executed
 
 -- "for the lesser of both open quantities; repeat"
--- rule: C3, C1
 unfoldable pub cross_turn : (i : ℕ) → Venue → Turn
 cross_turn i v =
     let c = complex_at v i in
@@ -85,7 +78,6 @@ cross_turn i v =
 -- Touch ---------------------------------------------------------------------------------------
 
 -- "if both sides it would take have a price and the best own prices, legging included, net ≤ N", while some quantity is open
--- rule: C4, C1
 unfoldable pub touches : Venue → Complex → Bool
 touches v c =
     let a = best_own v c.series1 (opposite c.side1) in
@@ -93,13 +85,11 @@ touches v c =
     held c.quantity && held a && held b && le_z (net c a b) c.limit
 
 -- place n is one of the two sides that c would take
--- rule: C4
 unfoldable pub taken_side : Complex → (place : ℕ) → Bool
 taken_side c n =
     eqb n (place_of c.series1 (opposite c.side1)) || eqb n (place_of c.series2 (opposite c.side2))
 
 -- request (g): "the sizes, shown and legging, at the prices touched" fill a unit; one contract of each leg always does
--- rule: (g)7
 unfoldable pub fills_unit : Venue → Complex → Bool
 fills_unit v c =
     leb c.ratio1 (own_size v c.series1 (opposite c.side1))
@@ -107,7 +97,6 @@ fills_unit v c =
 
 -- "remove legging orders on those two sides (cause 8; this stands for viii and ix)"; request (g): where the sizes "can't fill a unit, the
 -- legging orders on the touched sides go with cause 10 instead of 8"; (C)(4)(viii) to (x)
--- rule: C4, (g)7
 unfoldable pub touch : (i : ℕ) → Venue → Effect
 touch i v =
     let c = complex_at v i in
@@ -118,13 +107,11 @@ touch i v =
 -- Leg in --------------------------------------------------------------------------------------
 
 -- "while best regular prices net ≤ N and in band": best prices a and b, while some quantity is open
--- rule: C5, C1
 unfoldable pub legs_in : Venue → Complex → (a b : ℕ) → Bool
 legs_in v c a b =
     held c.quantity && held a && held b && le_z (net c a b) c.limit && in_band v c (net c a b)
 
 -- k units at prices a and b, each leg's contracts by its ratio: "first leg's trades, second's, 66", and the removals
--- rule: C5, (g)5
 unfoldable pub leg_in : (i a b k : ℕ) → Venue → Effect
 leg_in i a b k v =
     let c = complex_at v i in
@@ -135,7 +122,6 @@ leg_in i a b k v =
     ⟫ pair_off i c.id (net c a b) k
 
 -- "trade the least of open quantity and both sizes": as many units as they fill
--- rule: (g)5
 unfoldable pub units_in : Venue → Complex → ℕ
 units_in v c =
     min c.quantity (min
@@ -143,7 +129,6 @@ units_in v c =
     (best_size v c.series2 (opposite c.side2) / c.ratio2))
 
 -- request (g): "a leg-in step that can't fill a unit trades nothing and ends"
--- rule: C5, (g)5
 unfoldable pub leg_in_turn : (i : ℕ) → Venue → Turn
 leg_in_turn i v =
     let c = complex_at v i in
@@ -155,7 +140,6 @@ leg_in_turn i v =
 -- The messages --------------------------------------------------------------------------------
 
 -- "First cross …; repeat. Then touch … Then leg in", "if neither series is closed", for the order at place i
--- rule: C3, C1
 unfoldable pub work : (i : ℕ) → Venue → Effect
 work i v =
     let c = complex_at v i in
@@ -163,7 +147,6 @@ work i v =
     else repeat c.quantity (cross_turn i) v ⟫ touch i ⟫ repeat c.quantity (leg_in_turn i)
 
 -- The order is given a place and is worked there; "The rest rests; settle; generate for its first leg, then second."
--- rule: C8, C0
 unfoldable pub complex : (number : ℕ) → Complex → Venue → Effect
 complex number c v =
     let i = free_complex v in
@@ -179,19 +162,16 @@ places_of f n [] = []
 places_of f n (c ∷ cs) = if held c.quantity && f c then n ∷ places_of f (suc n) cs else places_of f (suc n) cs
 
 -- the places of all orders that rest in v, "earliest first"
--- rule: A11
 unfoldable pub resting_places : Venue → List ℕ
 resting_places v = places_of (λ _. true) 0 v.complex
 
 -- f for the order at each of these places in turn. An order that is gone by its turn has left its place free; `work` and `generate` do
 -- nothing at a free place.
--- rule: C9, (m)6
 unfoldable pub each_of : (f : ℕ → Venue → Effect) → (places : List ℕ) → Venue → Effect
 each_of f [] v = nothing v
 each_of f (i ∷ places) v = f i v ⟫ each_of f places
 
 -- "Sweep: all this for each resting order, earliest first, but settle once and then generate."
--- rule: C9
 unfoldable pub sweep : (number : ℕ) → Venue → Effect
 sweep number v =
     let places = resting_places v in
@@ -201,25 +181,21 @@ sweep number v =
 
 -- The places of all orders that rest in v, in the order in which a limited sweep comes to them, "starting after the last id that a kind
 -- 11 looked at and going round by id": first the places of those with a higher id than the one reached, then the places of the others.
--- rule: (m)6
 unfoldable pub going_round : Venue → List ℕ
 going_round v =
     places_of (λ c. ltb v.reached c.id) 0 v.complex ++ places_of (λ c. not (ltb v.reached c.id)) 0 v.complex
 
 -- "the number looked at, the lesser of n and the orders resting when it starts; one that is gone by its turn counts as looked at"
--- rule: (m)7
 unfoldable pub examined : (n : ℕ) → Venue → ℕ
 examined n v = min n (length (going_round v))
 
 -- the id at the last of some places; where there is none, the one reached before
--- rule: (m)7
 unfoldable pub id_reached : Venue → (places : List ℕ) → ℕ
 id_reached v [] = v.reached
 id_reached v (i ∷ []) = (complex_at v i).id
 id_reached v (i ∷ j ∷ places) = id_reached v (j ∷ places)
 
 -- "Kind 11 is a sweep limited to n resting orders …, generation too. It writes record 72 … right after its 64"
--- rule: (m)6
 unfoldable pub limited_sweep : (number n : ℕ) → Venue → Effect
 limited_sweep number n v =
     let places = take n (going_round v) in
@@ -227,13 +203,11 @@ limited_sweep number n v =
     ⟫ each_of work places ⟫ settle ⟫ each_of (generate number) places
 
 -- "Cancel: 71, then removals (4)"; (C)(4)(iv)
--- rule: C10
 unfoldable pub cancel_regular : (i : ℕ) → Venue → Effect
 cancel_regular i v =
     let o = regular_at v i in
     report (cancelled o.id o.quantity) (fill_regular i o.quantity v)
 
--- rule: C10
 unfoldable pub cancel_complex : (i : ℕ) → Venue → Effect
 cancel_complex i v =
     let c = complex_at v i in
@@ -246,15 +220,12 @@ regular_place v id = place_where (is_regular_of id) v.regular
 unfoldable pub complex_place : Venue → (id : ℕ) → ℕ
 complex_place v id = place_where (is_complex_of id) v.complex
 
--- rule: R8
 unfoldable pub rests_regular : Venue → (id : ℕ) → Bool
 rests_regular v id = is_regular_of id (regular_at v (regular_place v id))
 
--- rule: R8
 unfoldable pub rests_complex : Venue → (id : ℕ) → Bool
 rests_complex v id = is_complex_of id (complex_at v (complex_place v id))
 
--- rule: C10
 unfoldable pub cancel : (id : ℕ) → Venue → Effect
 cancel id v =
     (if rests_regular v id

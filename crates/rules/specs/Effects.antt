@@ -3,7 +3,6 @@ use Rattle.std.specs.Prelude.{List, [], ◌∷◌, ◌++◌, ℕ, zero, suc}
 use Rattle.rules.specs.declared.Venue.{Venue}
 use Rattle.rules.specs.Records.{Report}
 
--- rule: B15
 pub record Effect : Type 0 where
   pub venue : Venue
   pub reports : List Report
@@ -16,9 +15,8 @@ nothing v = record { venue = v; reports = [] }
 unfoldable pub report : Report → Venue → Effect
 report r v = record { venue = v; reports = r ∷ [] }
 
--- first one, then the other on the venue that it left
+-- first one, then the other upon the venue that it left
 infixl 10 ◌⟫◌
--- rule: B15
 unfoldable pub ◌⟫◌ : Effect → (Venue → Effect) → Effect
 e ⟫ f =
     let g = f e.venue in
@@ -29,7 +27,7 @@ pub data Turn : Type 0 where
   ended : Turn
   turned : Effect → Turn
 
--- turns on a venue until one has nothing to do. The fuel is the quantity open at the start: each turn trades at least one contract.
+-- turns upon a venue until one has nothing to do. The fuel is the quantity open at the start: each turn trades at least one contract.
 unfoldable pub repeat : (fuel : ℕ) → (Venue → Turn) → Venue → Effect
 repeat zero turn v = nothing v
 repeat (suc fuel) turn v = elim (turn v) [ ended ↦ nothing v | turned e ↦ e ⟫ repeat fuel turn ]

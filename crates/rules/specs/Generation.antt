@@ -18,23 +18,19 @@ use Rattle.rules.specs.Standing.{other_leg, other_clear, other_size, parent_of, 
 -- The legging order of a leg ------------------------------------------------------------------
 
 -- a price; none where the number is negative
--- rule: G1
 unfoldable pub as_price : ℤ → ℕ
 as_price (pos n) = n
 as_price (negsuc n) = 0
 
 -- "Price p = sign × (N - other leg's sign × other clear price)", for the leg of c at side d of series s; (C)(1)(ii)
--- rule: G1
 unfoldable pub leg_price : Venue → Complex → (series side : ℕ) → ℕ
 leg_price v c s d = as_price (sign_times d (c.limit -ℤ sign_times (other_leg c s).side (pos (other_clear v c s))))
 
 -- "Quantity: the lesser of open and size at the clear price."
--- rule: G10
 unfoldable pub new_legging : Venue → Complex → (series side : ℕ) → Legging
 new_legging v c s d = record { parent = c.id; price = leg_price v c s d; quantity = min c.quantity (other_size v c s) }
 
 -- the venue with a legging order at a place
--- rule: G9
 unfoldable pub placed : (place : ℕ) → Legging → Venue → Venue
 placed n l v = with_legging v (set v.legging n l)
 
@@ -46,7 +42,6 @@ generations_of v s = (get_or v.generations s no_generations).messages
 
 -- "Per series at most 20 are generated in any 256 consecutive messages, the present one counted … Refused messages count among the 256":
 -- the oldest of the 20 is none, or it was 256 messages before the present one or more
--- rule: (m)1
 unfoldable pub under_ceiling : (number : ℕ) → (generations : List ℕ) → Bool
 under_ceiling number gs =
     let oldest = get_or gs 0 0 in
@@ -56,7 +51,6 @@ under_ceiling number gs =
 unfoldable pub one_more : (number : ℕ) → (generations : List ℕ) → List ℕ
 one_more number gs = drop 1 gs ++ (number ∷ [])
 
--- rule: (m)1
 unfoldable pub counted : (number series : ℕ) → Venue → Venue
 counted number s v = with_generations v (set v.generations s (record { messages = one_more number (generations_of v s) }))
 
@@ -64,30 +58,26 @@ counted number s v = with_generations v (set v.generations s (record { messages 
 
 -- "p itself not reaching (equal is reaching) any own price opposite …, nor the away price opposite where there is one":
 -- p at side d reaches q, where q is there
--- rule: G7
 unfoldable pub reaches_any : (side p q : ℕ) → Bool
 reaches_any d p q = held q && reaches d p q
 
 -- "its place is empty, or held at a worse price, or at equal price by class 1 while this is class 0":
 -- l gives way to c at price p; (C)(2)(iv) and (C)(4)(vii)
--- rule: G8
 unfoldable pub gives_way : Venue → Complex → (side p : ℕ) → Legging → Bool
 gives_way v c d p l =
     better d p (own_price l)
     || (eqb p (own_price l) && eqb c.class customer && eqb (parent_of v l).class other_class)
 
--- True where each legging order of the list passes its test on w, the one at place m left aside: "no other standing order would then
+-- True where each legging order of the list passes its test upon w, the one at place m left aside: "no other standing order would then
 -- fail its test". w is the venue with the new order at its place m; the list begins at place n.
 -- (C)(2)(vi) is another rule: it bars a complex order that itself causes removals under (C)(4)(ix), and 01 lets that order generate.
--- rule: G9
 unfoldable pub others_stand : (w : Venue) → (m n : ℕ) → List Legging → Bool
 others_stand w m n [] = true
 others_stand w m n (l ∷ ls) = (eqb n m || stands (verdict w n l)) && others_stand w m (suc n) ls
 
 -- "Made when", for the leg of c at side d of series s, under the message of this number. So p is at most 100,000: a sell price is at most
--- its displayed price; a buy price, which may be above the displayed one, is below 100,000, since "N in band" needs an offer, regular
+-- its displayed price; a buy price, which may be above the displayed one, is below 100,000, since "N in band" asks for an offer, regular
 -- or away, in its series and p reaches none.
--- rule: G2, G4, G3, G5, (g)6, (m)1
 unfoldable pub makes : (number : ℕ) → Venue → Complex → (series side : ℕ) → Bool
 makes number v c s d =
     let p = leg_price v c s d in
@@ -119,7 +109,6 @@ makes number v c s d =
 -- What is done --------------------------------------------------------------------------------
 
 -- "(the holder goes, cause 7, before the 67)"
--- rule: (C)(4)(vii)
 unfoldable pub make : (number : ℕ) → Complex → (series side : ℕ) → Venue → Effect
 make number c s d v =
     let l = new_legging v c s d in
@@ -128,12 +117,10 @@ make number c s d v =
     report (generated c.id s d l.price (displayed_price (increment v s) d l.price) l.quantity)
     (counted number s (placed (place_of s d) l w)))
 
--- rule: C8
 unfoldable pub generate_leg : (number : ℕ) → Complex → (series side : ℕ) → Venue → Effect
 generate_leg number c s d v = if held c.quantity && makes number v c s d then make number c s d v else nothing v
 
 -- "generate for its first leg, then second", of the order at place i
--- rule: C8
 unfoldable pub generate : (number i : ℕ) → Venue → Effect
 generate number i v =
     let c = complex_at v i in

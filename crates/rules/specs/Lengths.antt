@@ -3,7 +3,6 @@ use Rattle.std.specs.Prelude.{ℕ}
 use Rattle.rules.specs.Records.{Report, answer, trade, pair, generated, removed, crossed, cancelled, looked}
 
 -- The table's column "Length", of a record.
--- rule: B8
 unfoldable pub record_length : Report → ℕ
 record_length (answer number refusal mask count) = 12
 record_length (trade series side price quantity taker maker) = 22

@@ -13,7 +13,7 @@
 --   each kind's effect, and its 64           Step
 --   "A venue is sound when …"                Sound
 --   Demand 3's sums over the records         Sums
---   02 (d), the figures in force             Settings; the call that returns them: Calls
+--   02 (d), the figures in force             Settings; the call that tells them: Calls
 --   02 (c), lengths and rounding             Messages (KindLengths), Prices (DisplayedRounds)
 --   "Trials"                                 Trials: each definition above at work, with what 01 says must come out
 --
@@ -28,7 +28,7 @@
 --   leb, ltb, eqb, le_z, lt_z   the tests ≤, <, = of numbers, and ≤, < of integers;  &&, ||, not join them
 --   elim x [ a ↦ e | b ↦ g ]  e or g, by which case of its type x is
 --   get_d l i x, set l i y     the element of l at place i, x past the end;  l with y at place i
---   e ⟫ f                     the effect e, and then f on the venue that e left; the records come in that order
+--   e ⟫ f                     the effect e, and then f upon the venue that e left; the records come in that order
 --   held q                    q is not 0: a place holds an order while its quantity is held, a price is there while it is held
 --   fuel                      a bound on the turns of a loop, named where it is given and large enough for every turn there can be
 --   x ≡ y, x ≢ y              x is y, x is not y, as a statement

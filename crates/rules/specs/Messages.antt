@@ -10,7 +10,6 @@ use Rattle.rules.specs.Words.{one_to_one}
 use Rattle.rules.specs.Bytes.{u8_at, u32_at, as_signed, kind_field, u8, u32, i32, framed}
 
 -- The table's column "Length", by kind; 0 for what is no kind of message.
--- rule: B2, (c)1
 unfoldable pub length_of : (kind : ℕ) → ℕ
 length_of k =
     if eqb k 1 then 18
@@ -27,7 +26,6 @@ length_of k =
     else 0
 
 -- 1 order: id u32, series u8, side u8, price u32, quantity u32. It shows so much of it, and the rest is reserve
--- rule: B2, (e)1
 unfoldable pub order_at : (display : ℕ) → List ℕ → Regular
 order_at x bs = record {
   id = u32_at bs 4;
@@ -40,7 +38,6 @@ order_at x bs = record {
 }
 
 -- 2 complex: id u32, series u8, side u8, series u8, side u8, class u8, N i32, quantity u32; with its ratios
--- rule: B3, (g)1
 unfoldable pub two_leg_at : List ℕ → (ratio1 ratio2 : ℕ) → Complex
 two_leg_at bs r s = record {
   id = u32_at bs 4;
@@ -60,7 +57,6 @@ two_leg_at bs r s = record {
 -- (d): "Kind 7 carries series u8, increment u8 … and edition u32. Kind 8 carries percent u8 … and edition u32."
 -- (e): "Kind 9 is kind 1 with a shown quantity u32 after it". (g): "Kind 10 is kind 2 with two ratio bytes after it".
 -- (m): "Kind 11 is a sweep limited to n resting orders (u8 …)".
--- rule: B2, (d)1, (e)1, (g)1, (m)6
 unfoldable pub message_of : List ℕ → Message
 message_of bs =
     let k = kind_field bs in
@@ -79,7 +75,6 @@ message_of bs =
 -- A number for each case of the type Message, in the order of the cases. It is no kind of the papers: an order is of kind 1 or 9, a
 -- complex order of kind 2 or 10, a limited sweep of kind 11. The paper's kind of a message is the one that `encode_message` frames it
 -- with.
--- rule: (c)1
 abbrev pub message_form : Message → ℕ
 message_form (Order o) = 1
 message_form (TwoLeg c) = 2
@@ -92,19 +87,16 @@ message_form (Percent x e) = 8
 message_form (LimitedSweep n) = 9
 
 -- the fields of an order, without its shown quantity
--- rule: B2
 unfoldable pub order_fields : Regular → List ℕ
 order_fields o = u32 o.id ++ u8 o.series ++ u8 o.side ++ u32 o.price ++ u32 o.quantity
 
 -- the fields of kind 2, which kind 10 begins with
--- rule: B3
 unfoldable pub two_leg_fields : Complex → List ℕ
 two_leg_fields c =
     u32 c.id ++ u8 c.series1 ++ u8 c.side1 ++ u8 c.series2 ++ u8 c.side2 ++ u8 c.class
     ++ i32 c.limit ++ u32 c.quantity
 
 -- the bytes of a message; of an order that shows all of it those of kind 1, of a complex order one to one those of kind 2
--- rule: B2, (d)1, (e)1, (g)1
 unfoldable pub encode_message : Message → List ℕ
 encode_message (Order o) = if eqb o.display o.quantity then framed 1 (order_fields o) else framed 9 (order_fields o ++ u32 o.display)
 encode_message (TwoLeg c) =
@@ -120,7 +112,6 @@ encode_message (Percent x e) = framed 8 (u8 x ++ u32 e)
 encode_message (LimitedSweep n) = framed 11 (u8 n)
 
 -- "the lengths by kind … be proved those of document 01 for every kind" (request (c)): each message has as many bytes as the length of
--- their kind
--- rule: (c)1
+-- the kind that they tell
 abbrev pub KindLengths : Type 0
 KindLengths = (m : Message) → length (encode_message m) ≡ length_of (kind_field (encode_message m))

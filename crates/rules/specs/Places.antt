@@ -32,7 +32,6 @@ blank_complex c =
 unfoldable pub blank_edition : Edition → Bool
 blank_edition e = eqb e.edition 0 && eqb e.message 0 && eqb e.figure 0 && eqb e.value 0
 
--- rule: V1
 unfoldable pub blank_legging : Legging → Bool
 blank_legging l = eqb l.parent 0 && eqb l.price 0 && eqb l.quantity 0
 
@@ -42,7 +41,6 @@ blank_legging l = eqb l.parent 0 && eqb l.price 0 && eqb l.quantity 0
 unfoldable pub packed : {A : Type 0} → (A → Bool) → A → List A → List A
 packed holds none l = keep holds l ++ replicate (length l - length (keep holds l)) none
 
--- rule: W11
 unfoldable pub close_gaps : Venue → Venue
 close_gaps v = with_complex (with_regular v (packed holds_regular no_regular v.regular)) (packed holds_complex no_complex v.complex)
 
@@ -51,7 +49,6 @@ close_gaps v = with_complex (with_regular v (packed holds_regular no_regular v.r
 -- True where the places of a list come so: first the held ones, each of which passes the test `asked`, their numbers (of orders: their ids)
 -- rising and all above `low`; then only places that are all zero. `holds`, `blank` and `id` say of a place whether it is held, whether it
 -- is all zero, and its number.
--- rule: V1
 unfoldable pub arranged : {A : Type 0} → (holds asked blank : A → Bool) → (id : A → ℕ) → (low : ℕ) → List A → Bool
 arranged holds asked blank id low [] = true
 arranged holds asked blank id low (x ∷ l) =

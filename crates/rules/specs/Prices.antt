@@ -12,17 +12,14 @@ use Rattle.rules.specs.Settings.{percent}
 -- Prices compared -----------------------------------------------------------------------------
 
 -- a is strictly better than b at side d: "higher to buy, lower to sell"; any price is better than none
--- rule: D8
 unfoldable pub better : (side a b : ℕ) → Bool
 better d a b = if eqb d buy then ltb b a else (held a && (not (held b) || ltb a b))
 
 -- the better of two prices
--- rule: P5
 unfoldable pub better_of : (side a b : ℕ) → ℕ
 better_of d a b = if better d a b then a else b
 
 -- a price p of side d and a price q of the other side "cross or are equal"
--- rule: O1
 unfoldable pub reaches : (side p q : ℕ) → Bool
 reaches d p q = if eqb d buy then leb q p else leb p q
 
@@ -34,12 +31,10 @@ rests_at s d o = held o.quantity && eqb o.series s && eqb o.side d
 
 -- what an order shows: what is left of it but for its reserve. (e): "Best price, size, clear price and legging quantity count shown size
 -- only."
--- rule: (e)3
 unfoldable pub shown_size : Regular → ℕ
 shown_size o = o.quantity - o.reserve
 
 -- it shows some size in series s at side d
--- rule: (e)3
 unfoldable pub shows_at : (series side : ℕ) → Regular → Bool
 shows_at s d o = held (shown_size o) && eqb o.series s && eqb o.side d
 
@@ -48,7 +43,6 @@ unfoldable pub shows_for : (series side price : ℕ) → Regular → Bool
 shows_for s d p o = shows_at s d o && eqb o.price p
 
 -- the best price of those in a list
--- rule: P1
 unfoldable pub best_in : (series side : ℕ) → List Regular → ℕ
 best_in s d [] = 0
 best_in s d (o ∷ os) =
@@ -56,7 +50,6 @@ best_in s d (o ∷ os) =
     if shows_at s d o then better_of d o.price rest else rest
 
 -- their total size at a price
--- rule: P1, (e)3
 unfoldable pub size_in : (series side price : ℕ) → List Regular → ℕ
 size_in s d p [] = 0
 size_in s d p (o ∷ os) =
@@ -64,28 +57,23 @@ size_in s d p (o ∷ os) =
     if shows_for s d p o then shown_size o + rest else rest
 
 -- "Per series and side: best regular price and its total size"
--- rule: P1
 unfoldable pub best_regular : Venue → (series side : ℕ) → ℕ
 best_regular v s d = best_in s d v.regular
 
--- rule: P1
 unfoldable pub best_size : Venue → (series side : ℕ) → ℕ
 best_size v s d = size_in s d (best_regular v s d) v.regular
 
 -- Legging orders ------------------------------------------------------------------------------
 
 -- the own price of what stands at a legging place; none where it is free
--- rule: P2
 unfoldable pub own_price : Legging → ℕ
 own_price l = if held l.quantity then l.price else 0
 
 -- the best own price of a side, "legging included"
--- rule: G7, C4
 unfoldable pub best_own : Venue → (series side : ℕ) → ℕ
 best_own v s d = better_of d (own_price (legging_at v s d)) (best_regular v s d)
 
 -- request (g): the size, "shown and legging", at that price
--- rule: (g)7
 unfoldable pub own_size : Venue → (series side : ℕ) → ℕ
 own_size v s d =
     let p = best_own v s d in
@@ -94,7 +82,6 @@ own_size v s d =
 
 -- "clear price: the best regular price, absent if there is none or if a legging order of that side has a strictly better own price";
 -- the filing's "best displayed bid or offer (other than Legging Orders)", (C)(1)(ii) and (C)(4)(ii)
--- rule: P2
 unfoldable pub clear_price : Venue → (series side : ℕ) → ℕ
 clear_price v s d =
     let best = best_regular v s d in
@@ -102,13 +89,11 @@ clear_price v s d =
 
 -- "Displayed price of a legging order: its own, down (buy) or up (sell) to the increment"; (C)(2): "rounded to the nearest minimum
 -- increment", and which way by the filing's Item 3
--- rule: P4, (c)2
 unfoldable pub displayed_price : (increment side price : ℕ) → ℕ
 displayed_price i d p = if eqb d buy then p / i * i else (p + (i - 1)) / i * i
 
 -- "down (buy) or up (sell) to the increment": a multiple of it, not above the price to buy, not below it to sell, and less than one
 -- increment away
--- rule: P4, (c)2
 pub record Rounds (increment side price rounded : ℕ) : Type 0 where
   pub multiple : rounded % increment ≡ 0
   pub down : eqb side buy ≡ true → (rounded ≤ price) × (price < rounded + increment)
@@ -116,51 +101,42 @@ pub record Rounds (increment side price rounded : ℕ) : Type 0 where
 
 -- "the rounding to an increment … be proved those of document 01 for every … price, side and series" (request (c)): of every increment,
 -- and no other price is so rounded
--- rule: (c)2
 abbrev pub DisplayedRounds : Type 0
 DisplayedRounds = (i d p : ℕ) → 0 < i → Rounds i d p (displayed_price i d p) × ((r : ℕ) → Rounds i d p r → r ≡ displayed_price i d p)
 
 -- The market and the band ---------------------------------------------------------------------
 
 -- the away price of a side
--- rule: W9
 unfoldable pub away : Venue → (series side : ℕ) → ℕ
 away v s d =
     let x = listed_at v s in
     if eqb d buy then x.bid else x.offer
 
 -- "Market best: the better of away and best regular."
--- rule: P5
 unfoldable pub market_best : Venue → (series side : ℕ) → ℕ
 market_best v s d = better_of d (away v s d) (best_regular v s d)
 
 -- what a leg adds to the net: sign × price; request (g): "the net weighs each leg by its ratio"
--- rule: W5, (g)2
 unfoldable pub weighed : (ratio side price : ℕ) → ℤ
 weighed r d p = sign_times d (pos (r * p))
 
 -- "Net = the sum over both legs of sign × price": of prices a and b at the legs of c
--- rule: P6, W5, (g)2
 unfoldable pub net : Complex → (a b : ℕ) → ℤ
 net c a b = weighed c.ratio1 c.side1 a +ℤ weighed c.ratio2 c.side2 b
 
 -- "the market bests that the legs would take"
--- rule: P6
 unfoldable pub taken1 : Venue → Complex → ℕ
 taken1 v c = market_best v c.series1 (opposite c.side1)
 
--- rule: P6
 unfoldable pub taken2 : Venue → Complex → ℕ
 taken2 v c = market_best v c.series2 (opposite c.side2)
 
 -- "100t ≤ 100·O + 5·|O|", with a percentage
--- rule: P7
 unfoldable pub near_net : (percent : ℕ) (O t : ℤ) → Bool
 near_net x O t = le_z (pos 100 *ℤ t) (pos 100 *ℤ O +ℤ pos (x * nat_abs O))
 
 -- "O = net of the market bests that the legs would take. A net t is in band when 100t ≤ 100·O + 5·|O| (ACE of 5 percent);
 -- never if a market best is missing." The ACE parameter of (C)(2)(iii) and (C)(4)(v); its percentage is the one in force.
--- rule: P7, P8, S2
 unfoldable pub in_band : Venue → Complex → (t : ℤ) → Bool
 in_band v c t =
     let a = taken1 v c in

@@ -7,7 +7,6 @@ use Rattle.rules.specs.Base.{if◌then◌else◌}
 use Rattle.rules.specs.Bytes.{u8_at, u16_at, u32_at, as_signed, length_field, kind_field, u8, u16, u32, i32, framed}
 
 -- the records, by the table's columns
--- rule: B8
 pub data Report : Type 0 where
   answer : (number refusal mask count : ℕ) → Report
   trade : (series side price quantity taker maker : ℕ) → Report
@@ -19,7 +18,6 @@ pub data Report : Type 0 where
   looked : (count : ℕ) → Report
 
 -- 01's number of a cause; the filing's clause beside it
--- rule: B12
 abbrev pub cause_number : Cause → ℕ
 -- (C)(4)(i): no longer at the displayed best bid or offer
 cause_number Worse = 1
@@ -42,7 +40,6 @@ cause_number NoUnit = 10
 
 -- Writing -------------------------------------------------------------------------------------
 
--- rule: B8
 unfoldable pub encode : Report → List ℕ
 -- 64 answer: message number u32 from 1, refusal u8 or 0, place mask u16, count u8
 encode (answer number refusal mask count) = framed 64 (u32 number ++ u8 refusal ++ u16 mask ++ u8 count)
@@ -63,20 +60,17 @@ encode (cancelled id quantity) = framed 71 (u32 id ++ u32 quantity)
 -- "record 72, one u8"
 encode (looked count) = framed 72 (u8 count)
 
--- rule: B18
 unfoldable pub encode_all : List Report → List ℕ
 encode_all [] = []
 encode_all (r ∷ rs) = encode r ++ encode_all rs
 
 -- a report memory of a length: its records, and then zeros
--- rule: B18
 unfoldable pub sheet : (room : ℕ) → List Report → List ℕ
 sheet room rs = encode_all rs ++ replicate (room - length (encode_all rs)) 0
 
 -- Reading a sheet back ------------------------------------------------------------------------
 
 -- the cause of a number
--- rule: B12
 unfoldable pub cause_of : ℕ → Cause
 cause_of n =
     if eqb n 1 then Worse
@@ -90,7 +84,6 @@ cause_of n =
     else NoUnit
 
 -- the record at the front of bs
--- rule: B8
 unfoldable pub record_of : List ℕ → Report
 record_of bs =
     let k = kind_field bs in
@@ -104,14 +97,12 @@ record_of bs =
     else looked (u8_at bs 4)
 
 -- the records from bs on; the fuel is the length of bs
--- rule: R16
 unfoldable pub records_from : (fuel : ℕ) → List ℕ → List Report
 records_from zero bs = []
 records_from (suc fuel) bs =
     elim (eqb (length_field bs) 0) [ true ↦ [] | false ↦ record_of bs ∷ records_from fuel (drop (length_field bs) bs) ]
 
 -- "the sheet ends at the first zero length or at the end of the report memory"
--- rule: R16, D7
 unfoldable pub records : (memory : List ℕ) → List Report
 records memory = records_from (length memory) memory
 

@@ -20,30 +20,25 @@ use Rattle.rules.specs.Complex.{any_closed, rests_regular, rests_complex}
 -- 1 to 4, and 14: of the bytes alone ----------------------------------------------------------
 
 -- 1: "1 to 3 bytes left (in a one-message call also none), or length below 4 or above what is left"
--- rule: R1
 unfoldable pub torn : List ℕ → Bool
 torn bs = ltb (length bs) 4 || ltb (length_field bs) 4 || ltb (length bs) (length_field bs)
 
 -- 2: "kind not 1 to 6"; "Refusal 2 no longer meets the message kinds that this and later requests add": (d) 7 and 8, (e) 9, (g) 10, (m) 11
--- rule: R2, (d)7
 unfoldable pub is_kind : ℕ → Bool
 is_kind = within 1 11
 
 -- 3: "length not its kind's"
--- rule: R3
 unfoldable pub is_length : (kind length : ℕ) → Bool
 is_length k n = eqb n (length_of k)
 
--- 4: "field outside its range, both legs in one series"; "price off the increment" is a test on the venue, below. (e): a shown quantity
+-- 4: "field outside its range, both legs in one series"; "price off the increment" is asked of the venue, below. (e): a shown quantity
 -- "from 1 to the quantity"
--- rule: R4, V1, (e)7
 unfoldable pub regular_in_range : Regular → Bool
 regular_in_range o =
     is_id o.id && is_series o.series && is_side o.side && is_price o.price && is_quantity o.quantity
     && within 1 o.quantity o.display
 
 -- of a complex order whose limit goes as far as `far`
--- rule: R4, (g)1
 unfoldable pub two_leg_in_range : (far : ℕ) → Complex → Bool
 two_leg_in_range far c =
     is_id c.id && is_series c.series1 && is_side c.side1 && is_series c.series2 && is_side c.side2
@@ -51,11 +46,9 @@ two_leg_in_range far c =
     && is_ratio c.ratio1 && is_ratio c.ratio2
 
 -- "N, from -200,000 to 200,000"; of kind 10 "N runs from -600,000 to 600,000"
--- rule: (g)1
 unfoldable pub far_of : (kind : ℕ) → ℕ
 far_of k = if eqb k 10 then 600000 else 200000
 
--- rule: R4
 unfoldable pub in_range : (kind : ℕ) → Message → Bool
 in_range k (Order o) = regular_in_range o
 in_range k (TwoLeg c) = two_leg_in_range (far_of k) c
@@ -69,18 +62,16 @@ in_range k (Percent x e) = is_percent x && is_edition e
 in_range k (LimitedSweep n) = within 1 32 n
 
 -- 14: "equal ratio bytes; checked after 4 and 11 to 13", of kind 10, which meets none of 11 to 13
--- rule: (g)10
 unfoldable pub equal_ratios : List ℕ → Bool
 equal_ratios bs = eqb (kind_field bs) 10 && eqb (u8_at bs 21) (u8_at bs 22)
 
--- the refusal's number of a decoding; 0 for a message
+-- the refusal's number that a decoding tells; 0 for a message
 abbrev pub decoded_number : Decoded → ℕ
 decoded_number (Taken m) = 0
 decoded_number (Refused x) = x
 
--- The message at the front of bs, or the first of 1 to 4 and 14 that its bytes meet. 14 is decided here, before 11 to 13, which makes no
--- difference: 14 is of kind 10 alone, and kind 10 meets none of 11 to 13.
--- rule: R0, (g)10
+-- The message at the front of bs, or the first of 1 to 4 and 14 that its bytes meet. 14 is decided here, before 11 to 13, and nothing can
+-- tell: 14 is of kind 10 alone, and kind 10 meets none of 11 to 13.
 unfoldable pub decoded : List ℕ → Decoded
 decoded bs =
     if torn bs then Refused 1
@@ -91,7 +82,6 @@ decoded bs =
     else Taken (message_of bs)
 
 -- A complex order that may rest: of kind 2, one to one, or of kind 10, with ratios that differ.
--- rule: V1
 unfoldable pub complex_in_range : Complex → Bool
 complex_in_range c =
     two_leg_in_range (if one_to_one c then 200000 else 600000) c
@@ -100,14 +90,13 @@ complex_in_range c =
 -- 4, 11 to 13, and 5 to 8: of the venue ---------------------------------------------------------
 
 -- "a regular price a multiple of its series' increment", the one in force
--- rule: W2, V1
 unfoldable pub on_increment : Venue → Regular → Bool
 on_increment v o = eqb (o.price % increment v o.series) 0
 
--- Each of these refusals is for messages of some kinds; a message of another kind does not meet it. So each says below what it tests
+-- Each of these refusals is asked of messages of some kinds; a message of another kind does not meet it. So each says below what it asks
 -- of the kinds that can meet it, and the next three say `false` of the others.
 
--- a test of orders: f of an order of kind 1 or 9, g of an order of kind 2 or 10
+-- asked of orders: f of one of kind 1 or 9, g of one of kind 2 or 10
 abbrev pub of_orders : (f : Regular → Bool) → (g : Complex → Bool) → Message → Bool
 of_orders f g (Order o) = f o
 of_orders f g (TwoLeg c) = g c
@@ -119,7 +108,7 @@ of_orders f g (Increment s i e) = false
 of_orders f g (Percent x e) = false
 of_orders f g (LimitedSweep n) = false
 
--- a test of a cancel: f of its id
+-- asked of a cancel: f of its id
 abbrev pub of_cancel : (f : (id : ℕ) → Bool) → Message → Bool
 of_cancel f (Order o) = false
 of_cancel f (TwoLeg c) = false
@@ -131,7 +120,7 @@ of_cancel f (Increment s i e) = false
 of_cancel f (Percent x e) = false
 of_cancel f (LimitedSweep n) = false
 
--- a test of new settings: f of a kind 7's series and edition, g of a kind 8's edition
+-- asked of new settings: f of a kind 7's series and edition, g of a kind 8's edition
 abbrev pub of_settings : (f : (series edition : ℕ) → Bool) → (g : (edition : ℕ) → Bool) → Message → Bool
 of_settings f g (Order o) = false
 of_settings f g (TwoLeg c) = false
@@ -144,7 +133,6 @@ of_settings f g (Percent x e) = g e
 of_settings f g (LimitedSweep n) = false
 
 -- 4: "price off the increment"
--- rule: R4
 unfoldable pub off_increment : Venue → Message → Bool
 off_increment v m = of_orders (λ o. not (on_increment v o)) (λ c. false) m
 
@@ -153,12 +141,10 @@ abbrev pub not_above : Venue → (edition : ℕ) → Bool
 not_above v e = not (all (λ k. ltb k.edition e) v.editions)
 
 -- 11: "edition not above the last of either kind, at first 0"
--- rule: (d)8
 unfoldable pub edition_too_low : Venue → Message → Bool
 edition_too_low v m = of_settings (λ s e. not_above v e) (λ e. not_above v e) m
 
 -- a series is closed, and no order or leg rests in it
--- rule: (d)8
 unfoldable pub idle : Venue → (series : ℕ) → Bool
 idle v s =
     eqb (status_of v s) closed
@@ -166,38 +152,31 @@ idle v s =
     && all (λ c. not (held c.quantity && (eqb c.series1 s || eqb c.series2 s))) v.complex
 
 -- 12: "kind 7 for a series that isn't closed or has a resting order or leg"
--- rule: (d)8
 unfoldable pub in_use : Venue → Message → Bool
 in_use v m = of_settings (λ s e. not (idle v s)) (λ e. false) m
 
 -- 13: "32 editions held already": no place is free
--- rule: (d)8
 unfoldable pub no_edition_left : Venue → Message → Bool
 no_edition_left v m = of_settings (λ s e. leb 32 (free_edition v)) (λ e. leb 32 (free_edition v)) m
 
 -- 5: "id not above the last accepted (kinds 1, 2)"; ids come "each above the last accepted"
--- rule: W10, R5
 unfoldable pub id_too_low : Venue → Message → Bool
 id_too_low v m = of_orders (λ o. leb o.id v.last) (λ c. leb c.id v.last) m
 
 -- 6: "a series of the order is closed"
--- rule: R6
 unfoldable pub on_closed : Venue → Message → Bool
 on_closed v m = of_orders (λ o. eqb (status_of v o.series) closed) (λ c. any_closed v c) m
 
 -- 7: "128 regular (kind 1) or 32 complex (kind 2) rest already, even if the order would trade": no place is free. Orders of kind 10
 -- "share the 32 places"
--- rule: W11, R7, (g)4
 unfoldable pub full : Venue → Message → Bool
 full v m = of_orders (λ o. leb 128 (free_regular v)) (λ c. leb 32 (free_complex v)) m
 
 -- 8: "no resting order has the id (kind 3)"
--- rule: R8
 unfoldable pub unknown : Venue → Message → Bool
 unknown v m = of_cancel (λ id. not (rests_regular v id || rests_complex v id)) m
 
--- the first of these that a message meets on v; 0 where it meets none and is accepted
--- rule: R0, (d)8
+-- the first of these that a message meets upon v; 0 where it meets none and is accepted
 unfoldable pub refusal_of : Venue → Message → ℕ
 refusal_of v m =
     if off_increment v m then 4
@@ -210,7 +189,6 @@ refusal_of v m =
     else if unknown v m then 8
     else 0
 
--- the refusal of the message at the front of bs on v; 0 where it is accepted
--- rule: R0
+-- the refusal of the message at the front of bs upon v; 0 where it is accepted
 unfoldable pub refusal : Venue → List ℕ → ℕ
 refusal v bs = elim (decoded bs) [ Taken m ↦ refusal_of v m | Refused x ↦ x ]

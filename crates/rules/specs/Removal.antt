@@ -29,13 +29,11 @@ stayers f n [] = []
 stayers f n (l ∷ ls) = stay (f n l) l ∷ stayers f (suc n) ls
 
 -- The records of those that go from the places from n on, by rising place.
--- rule: S6, C7, (f)1
 unfoldable pub leavers : (f : (place : ℕ) → Legging → Verdict) → (n : ℕ) → List Legging → List Report
 leavers f n [] = []
 leavers f n (l ∷ ls) = goes n (f n l) l ++ leavers f (suc n) ls
 
 -- the legging orders that fail by f go, and their records are written
--- rule: S5, C7
 unfoldable pub remove : (f : (place : ℕ) → Legging → Verdict) → Venue → Effect
 remove f v = record { venue = with_legging v (stayers f 0 v.legging); reports = leavers f 0 v.legging }
 
@@ -43,6 +41,5 @@ unfoldable pub fail_if : Bool → Cause → Verdict
 fail_if t c = if t then Fails c else Stands
 
 -- "removal of all its parent's legging orders"
--- rule: C6
 unfoldable pub remove_of : (parent : ℕ) → Cause → Venue → Effect
 remove_of id c = remove (λ n l. fail_if (eqb l.parent id) c)

@@ -19,7 +19,6 @@ use Rattle.rules.specs.Places.{arranged}
 use Rattle.rules.specs.Refusals.{regular_in_range, on_increment, complex_in_range}
 
 -- "no series is locked or crossed counting own prices"
--- rule: V3
 unfoldable pub apart : Venue → (series : ℕ) → Bool
 apart v s =
     let bid = best_own v s buy in
@@ -27,13 +26,11 @@ apart v s =
     not (held bid) || not (held offer) || ltb bid offer
 
 -- the fields of a series
--- rule: V1
 unfoldable pub listed_in_range : Listed → Bool
 listed_in_range x = is_status x.status && is_away x.bid && is_away x.offer
 
 -- True where the legging order l at place n is sound, or where the place is free and all zero. Where no parent rests, `parent_of` is the
 -- empty order, which has nothing open.
--- rule: V1, V4, (g)6
 unfoldable pub legging_sound : Venue → (n : ℕ) → (l : Legging) → Bool
 legging_sound v n l =
     if held l.quantity
@@ -51,17 +48,15 @@ legging_sound v n l =
     else blank_legging l
 
 -- from place n on
--- rule: V4
 unfoldable pub leggings_sound : Venue → (n : ℕ) → List Legging → Bool
 leggings_sound v n [] = true
 leggings_sound v n (l ∷ ls) = legging_sound v n l && leggings_sound v (suc n) ls
 
 -- (e): it shows "the lesser of its shown quantity and what is left of it; a given venue where one shows otherwise is unsound"
--- rule: (e)5
 unfoldable pub shows_fully : Regular → Bool
 shows_fully o = eqb o.reserve (o.quantity - o.display)
 
--- the test of one resting regular order
+-- what is asked of one resting regular order
 abbrev pub regular_sound : Venue → Regular → Bool
 regular_sound v o =
     -- "fields are in range": "a regular price a multiple of its series' increment", the one in force
@@ -71,19 +66,16 @@ regular_sound v o =
     -- "resting ids … at most the last id"
     && leb o.id v.last
 
--- True where each resting regular order passes its test and the places are arranged. *Ours* is the arrangement: held places first, in rising
+-- True where each resting regular order is as asked and the places are arranged. *Ours* is the arrangement: held places first, in rising
 -- id, free places all zero; so the ids of one book are distinct ("resting ids distinct"), and equal states are equal values.
--- rule: V1, V2, (e)5
 unfoldable pub regulars_sound : Venue → Bool
 regulars_sound v = arranged holds_regular (regular_sound v) blank_regular (λ o. o.id) 0 v.regular
 
 -- the same of the complex orders: "fields are in range, resting ids … at most the last id", and *ours*, the arrangement
--- rule: V1, V2
 unfoldable pub complexes_sound : Venue → Bool
 complexes_sound v = arranged holds_complex (λ c. complex_in_range c && leb c.id v.last) blank_complex (λ c. c.id) 0 v.complex
 
 -- "resting ids distinct": no id rests in both books; within one book the arrangement says it
--- rule: V2
 unfoldable pub ids_distinct : Venue → Bool
 ids_distinct v = all (λ o. not (held o.quantity) || not (rests_complex v o.id)) v.regular
 
@@ -96,27 +88,23 @@ edition_in_range e = figure_in_range e && is_edition e.edition && leb e.message 
 
 -- Document 02 (d): "Editions that don't rise from 0 in both numbers are unsound": the edition's and the message's; and their fields are
 -- in range. *Ours*: kept editions come first, and free places are all zero.
--- rule: (d)6
 unfoldable pub editions_sound : Venue → Bool
 editions_sound v =
     arranged holds_edition edition_in_range blank_edition (λ e. e.edition) 0 v.editions
     && arranged holds_edition (λ _. true) blank_edition (λ e. e.message) 0 v.editions
 
 -- numbers that do not fall, from `low` on; a place before the first generation has number 0
--- rule: (m)3
 unfoldable pub unfallen : (low : ℕ) → List ℕ → Bool
 unfallen low [] = true
 unfallen low (n ∷ ns) = leb low n && unfallen n ns
 
 -- Document 02 (m): "generations of a series that fall in number … are unsound"; and each is a u32
--- rule: (m)3
 unfoldable pub generations_sound : Venue → Bool
 generations_sound v = all (λ g. unfallen 0 g.messages && all (λ n. leb n 4294967295) g.messages) v.generations
 
 -- True where the venue is sound. Document 01's conditions stand under its words, document 02's under its own, and *ours* are named: how
 -- places are arranged, and that free places are all zero. A one-message call given a venue that is arranged otherwise gets 9 too; no
 -- message leaves a sound venue so (demands: `StaysSound`).
--- rule: R9, V1
 unfoldable pub sound : Venue → Bool
 sound v =
     -- "fields are in range, resting ids … at most the last id"; *ours*: the arrangement of places
@@ -141,6 +129,5 @@ sound v =
     && leggings_sound v 0 v.legging
 
 -- a message's number is "above every kept edition's", and "above every generation's"; a free place has number 0
--- rule: (d)5, (m)2
 unfoldable pub follows : (number : ℕ) → Venue → Bool
 follows number v = all (λ e. ltb e.message number) v.editions && all (λ g. all (λ n. ltb n number) g.messages) v.generations

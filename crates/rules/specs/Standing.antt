@@ -24,17 +24,14 @@ unfoldable pub find_complex : (id : ℕ) → List Complex → Complex
 find_complex id [] = no_complex
 find_complex id (c ∷ cs) = if is_complex_of id c then c else find_complex id cs
 
--- rule: V4
 unfoldable pub parent_of : Venue → Legging → Complex
 parent_of v l = find_complex l.parent v.complex
 
 -- side d of series s is a leg of c
--- rule: V4
 unfoldable pub has_leg : Complex → (series side : ℕ) → Bool
 has_leg c s d = (eqb c.series1 s && eqb c.side1 d) || (eqb c.series2 s && eqb c.side2 d)
 
 -- the leg of c that is not in series s
--- rule: S4
 unfoldable pub other_leg : Complex → (series : ℕ) → Leg
 other_leg c s =
     if eqb c.series1 s
@@ -42,35 +39,29 @@ other_leg c s =
     else record { series = c.series1; side = c.side1 }
 
 -- "a leg's clear price is that of the side it takes": the other leg's, and the size there
--- rule: G4, S4
 unfoldable pub other_clear : Venue → Complex → (series : ℕ) → ℕ
 other_clear v c s = clear_price v (other_leg c s).series (opposite (other_leg c s).side)
 
--- rule: S4
 unfoldable pub other_size : Venue → Complex → (series : ℕ) → ℕ
 other_size v c s = best_size v (other_leg c s).series (opposite (other_leg c s).side)
 
 -- the net of price p at side d of series s, a leg of c, and price q at its other leg; one to one, since no other order has legging orders
 -- (request (g))
--- rule: S4, W5
 abbrev pub leg_net : Complex → (series side p q : ℕ) → ℤ
 leg_net c s d p q = sign_times d (pos p) +ℤ sign_times (other_leg c s).side (pos q)
 
 -- The test ------------------------------------------------------------------------------------
 
 -- "both its series are open (else cause 6)"; (C)(1), last part, and (C)(4)(vi)
--- rule: G2, S1
 unfoldable pub both_open : Venue → Complex → Bool
 both_open v c = eqb (status_of v c.series1) opened && eqb (status_of v c.series2) opened
 
 -- "its displayed price is no worse than the best regular of its side (else 1)", for own price p at side d of series s; (C)(4)(i)
--- rule: G6, S3
 unfoldable pub displayed_no_worse : Venue → (series side p : ℕ) → Bool
 displayed_no_worse v s d p = not (better d (best_regular v s d) (displayed_price (increment v s) d p))
 
 -- "the other leg has a clear price, net with it ≤ N, size there ≥ its quantity (else 2)",
 -- for a legging order of c for k contracts at own price p at side d of series s; (C)(4)(ii)
--- rule: S4
 unfoldable pub pairs : Venue → Complex → (series side p k : ℕ) → Bool
 pairs v c s d p k =
     held (other_clear v c s)
@@ -79,7 +70,6 @@ pairs v c s d p k =
 
 -- The test of a legging order l of c at side d of series s. 01: "failures go together, with the lowest cause that applies". Request (a)
 -- of 02 overtakes the rank: "Cause 5 now comes before cause 2; the order is 1, 5, 2, 6." "N is in band (else 5)"; (C)(4)(v)
--- rule: S2, (a)1
 unfoldable pub verdict_of : Venue → Complex → (series side : ℕ) → Legging → Verdict
 verdict_of v c s d l =
     if not (displayed_no_worse v s d l.price) then Fails Worse
@@ -89,7 +79,6 @@ verdict_of v c s d l =
     else Stands
 
 -- the test of what stands at place n
--- rule: S5, V4
 unfoldable pub verdict : Venue → (place : ℕ) → Legging → Verdict
 verdict v n l = if held l.quantity then verdict_of v (parent_of v l) (n / 2) (n % 2) l else Stands
 
@@ -98,7 +87,6 @@ abbrev pub verdict_number : Verdict → ℕ
 verdict_number Stands = 0
 verdict_number (Fails c) = cause_number c
 
--- rule: V4
 unfoldable pub stands : Verdict → Bool
 stands Stands = true
 stands (Fails c) = false
@@ -106,7 +94,6 @@ stands (Fails c) = false
 -- Settling ------------------------------------------------------------------------------------
 
 -- (e): "each order shows again the lesser of its shown quantity and what is left of it": all but its shown quantity is reserve
--- rule: (e)4
 unfoldable pub shows_again : Regular → Regular
 shows_again o = record {
   id = o.id;
@@ -118,13 +105,11 @@ shows_again o = record {
   reserve = o.quantity - o.display;
 }
 
--- rule: (e)4
 unfoldable pub show_again : Venue → Venue
 show_again v = with_regular v (map shows_again v.regular)
 
 -- "After every accepted message all are tested against the same state, failures go together". (e): "Before settling, each order shows
 -- again"
--- rule: S5, (e)4
 unfoldable pub settle : Venue → Effect
 settle v =
     let w = show_again v in

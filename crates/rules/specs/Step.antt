@@ -1,4 +1,4 @@
--- One message on a venue: what an accepted message does, and the answer.
+-- One message upon a venue: what an accepted message does, and the answer.
 use Rattle.std.specs.Prelude.{List, [], ◌∷◌, ℕ, ◌+◌, ◌*◌, eqb, set}
 use Rattle.rules.specs.declared.Legging.{Legging}
 use Rattle.rules.specs.declared.Venue.{Venue}
@@ -18,26 +18,22 @@ use Rattle.rules.specs.Refusals.{refusal}
 
 -- What an accepted message does ---------------------------------------------------------------
 
--- 4 away: new away prices of the series
--- rule: B5
+-- 4 away: the series' away prices anew
 unfoldable pub set_away : (series bid offer : ℕ) → Venue → Venue
 set_away s bid offer v =
     with_series v (set v.series s (record { status = status_of v s; bid = bid; offer = offer }))
 
--- 5 status: a new status of the series
--- rule: B6
+-- 5 status: its status anew
 unfoldable pub set_status : (series status : ℕ) → Venue → Venue
 set_status s x v =
     let old = listed_at v s in
     with_series v (set v.series s (record { status = x; bid = old.bid; offer = old.offer }))
 
 -- 7 and 8: the edition with the number of its message; figure 0 to 7 is a series' increment
--- rule: (d)2
 unfoldable pub set_figure : (number figure value edition : ℕ) → Venue → Venue
 set_figure number f x e v = enter_edition (record { edition = e; message = number; figure = f; value = x }) v
 
 -- by kind, the message of this number; "After every accepted message all are tested"; an order's id is the last accepted from then on
--- rule: S5, W10
 unfoldable pub perform : (number : ℕ) → Message → Venue → Effect
 perform number (Order o) v = order o (with_last v o.id)
 perform number (TwoLeg c) v = complex number c (with_last v c.id)
@@ -56,12 +52,10 @@ accept number m v = perform number m v ⟫ (λ w. nothing (close_gaps w))
 -- The answer ----------------------------------------------------------------------------------
 
 -- "Mask and count tell the legging places filled after the message; bit n is place n, and the count is its ones."
--- rule: B16
 unfoldable pub mask : List Legging → ℕ
 mask [] = 0
 mask (l ∷ ls) = (if held l.quantity then 1 else 0) + 2 * mask ls
 
--- rule: B16
 unfoldable pub filled : List Legging → ℕ
 filled [] = 0
 filled (l ∷ ls) = (if held l.quantity then 1 else 0) + filled ls
@@ -72,7 +66,6 @@ pub record StepOutcome : Type 0 where
   pub effect : Effect
 
 -- "Each message yields one 64, then its effects as they happen."
--- rule: B15, B16
 unfoldable pub answered : (number refused : ℕ) → Effect → StepOutcome
 answered number refused e = record {
   refused = refused;
@@ -82,8 +75,7 @@ answered number refused e = record {
   };
 }
 
--- The message at the front of bs, of this number, on v. "Message refusals leave the venue as it was."
--- rule: R11
+-- The message at the front of bs, of this number, upon v. "Message refusals leave the venue as it was."
 unfoldable pub step : Venue → (number : ℕ) → List ℕ → StepOutcome
 step v number bs =
     let x = refusal v bs in

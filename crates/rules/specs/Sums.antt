@@ -7,13 +7,11 @@ use Rattle.rules.specs.Base.{if◌then◌else◌}
 use Rattle.rules.specs.Records.{Report, answer, trade, pair, generated, removed, crossed, cancelled, looked}
 
 -- the sum of what each record counts
--- rule: D13
 unfoldable pub total : (Report → ℕ) → List Report → ℕ
 total f [] = 0
 total f (r ∷ rs) = f r + total f rs
 
 -- "contracts in a series from that series' 65, as taker or maker"
--- rule: D13
 unfoldable pub contracts : (id s : ℕ) → Report → ℕ
 contracts id s (answer n x m c) = 0
 contracts id s (trade t d p q taker maker) = if eqb t s && (eqb taker id || eqb maker id) then q else 0
@@ -36,7 +34,6 @@ contracts_at id s p (cancelled i q) = 0
 contracts_at id s p (looked n) = 0
 
 -- "pairs, or paired, from 66"
--- rule: D13
 unfoldable pub paired : ℕ → Report → ℕ
 paired id (answer n x m c) = 0
 paired id (trade t d p q taker maker) = 0
@@ -48,7 +45,6 @@ paired id (cancelled i q) = 0
 paired id (looked n) = 0
 
 -- "crossed from 70, as taker or maker"
--- rule: D13
 unfoldable pub crossed_for : ℕ → Report → ℕ
 crossed_for id (answer n x m c) = 0
 crossed_for id (trade t d p q taker maker) = 0
@@ -60,7 +56,6 @@ crossed_for id (cancelled i q) = 0
 crossed_for id (looked n) = 0
 
 -- "cancelled from 71"
--- rule: D13
 unfoldable pub cancelled_of : ℕ → Report → ℕ
 cancelled_of id (answer n x m c) = 0
 cancelled_of id (trade t d p q taker maker) = 0
@@ -91,6 +86,5 @@ open_in id quantity y (o ∷ os) = (if eqb (id o) y then quantity o else 0) + op
 abbrev pub open_regular : (id : ℕ) → List Regular → ℕ
 open_regular = open_in (λ o. o.id) (λ o. o.quantity)
 
--- rule: D12
 abbrev pub open_complex : (id : ℕ) → List Complex → ℕ
 open_complex = open_in (λ c. c.id) (λ c. c.quantity)

@@ -16,7 +16,6 @@ use Rattle.rules.specs.Removal.{remove_of}
 -- The order o after k of its contracts have traded. They are taken from what it shows first: so its reserve stays as it is, until what is
 -- left is less than the reserve; then all that is left is reserve. Its shown quantity is never more than what is left. "leaving frees the
 -- place": where nothing is left, its quantity is 0.
--- rule: W11, (e)4
 unfoldable pub less_regular : (k : ℕ) → (o : Regular) → Regular
 less_regular k o = record {
   id = o.id;
@@ -29,7 +28,6 @@ less_regular k o = record {
 }
 
 -- the complex order c after k of its units have traded
--- rule: W11
 unfoldable pub less_complex : (k : ℕ) → (c : Complex) → Complex
 less_complex k c = record {
   id = c.id;
@@ -52,11 +50,9 @@ unfoldable pub fill_complex : (i k : ℕ) → Venue → Venue
 fill_complex i k v = with_complex v (set v.complex i (less_complex k (complex_at v i)))
 
 -- the first free place; past the end if all are held
--- rule: R7
 unfoldable pub free_regular : Venue → ℕ
 free_regular v = place_where (λ o. not (held o.quantity)) v.regular
 
--- rule: R7, (g)4
 unfoldable pub free_complex : Venue → ℕ
 free_complex v = place_where (λ c. not (held c.quantity)) v.complex
 
@@ -70,7 +66,6 @@ put_complex i c v = with_complex v (set v.complex i c)
 -- Trading -------------------------------------------------------------------------------------
 
 -- a taker of side d trades k contracts with the regular order at place i, "at the resting price"
--- rule: O2
 unfoldable pub trade_with : (taker d i k : ℕ) → Venue → Effect
 trade_with taker d i k v =
     let o = regular_at v i in
@@ -78,7 +73,6 @@ trade_with taker d i k v =
 
 -- "k contracts … (trades by id, taker the complex order)": a taker of side d takes k contracts at price p in series s; the fuel is k.
 -- (e): "A complex order takes shown size only."
--- rule: O3, (e)6
 unfoldable pub trade_at_price : (fuel taker s d p k : ℕ) → Venue → Effect
 trade_at_price zero taker s d p k v = nothing v
 trade_at_price (suc fuel) taker s d p k v =
@@ -92,6 +86,5 @@ trade_at_price (suc fuel) taker s d p k v =
 
 -- k of the complex order of this id, at place i, are paired at net n: "66, then removal of all its parent's legging orders (cause 3)";
 -- "Any cross or pair removes the legging orders of each party (3), right after its 70 or 66"; (C)(3) and (C)(4)(iii)
--- rule: O3, C6
 unfoldable pub pair_off : (i id : ℕ) (n : ℤ) (k : ℕ) → Venue → Effect
 pair_off i id n k v = report (pair id n k) (fill_complex i k v) ⟫ remove_of id Executed

@@ -31,11 +31,11 @@ use Rattle.rules.specs.Opened.{opened-rules}
 pub data Trial : Type 0 where
   -- a run over bytes, in a report memory of a length: its number, the messages done, and the records
   session : (room : ℕ) (bytes : List ℕ) (number done : ℕ) → List Report → Trial
-  -- one message's bytes on a venue, after so many messages: the same, and the venue returned
+  -- one message's bytes upon a venue, so many messages having gone before: the same, and the venue returned
   upon : (v : Venue) (before room : ℕ) (bytes : List ℕ) (number done : ℕ) → List Report → (w : Venue) → Trial
-  -- one message's bytes, accepted on the venue that `legged` leaves, and its records
+  -- one message's bytes, accepted upon the venue that `legged` leaves, and its records
   next : (bytes : List ℕ) → List Report → Trial
-  -- a run on a venue, after so many messages: the same, and the venue returned
+  -- a run upon a venue, so many messages having gone before: the same, and the venue returned
   onward : (v : Venue) (before room : ℕ) (bytes : List ℕ) (number done : ℕ) → List Report → (w : Venue) → Trial
   -- a net t against O, which is the offer of series 1 less the bid of series 0
   band : (bid offer : ℕ) (t : ℤ) → Bool → Trial
@@ -235,14 +235,11 @@ accepted n (suc k) = answer n 0 0 0 ∷ accepted (suc n) k
 pub away_added : List ℕ
 away_added = encode_message (Away 0 0 60) ++ encode_message (Away 1 0 40)
 
--- rule: T2, T14
 pub starred : List Trial
 starred =
-    -- rule: G1
     -- "N 205, 8: p 115 and 75."
     session 200 (opening ++ buys_both 3 (pos 205) 8) 0 5
     (accepted 1 4 ++ (answer 5 0 5 2 ∷ generated 3 0 0 115 115 8 ∷ generated 3 1 0 75 75 8 ∷ []))
-    -- rule: P4
     -- "N 203, 8: 113 shown 110, 73 shown 70."
     ∷ session 200 (opening ++ buys_both 3 (pos 203) 8) 0 5
     (accepted 1 4 ++ (answer 5 0 5 2 ∷ generated 3 0 0 113 110 8 ∷ generated 3 1 0 73 70 8 ∷ []))
@@ -252,17 +249,14 @@ starred =
     -- "N 220, 8: legs in, no 67."
     ∷ session 200 (opening ++ buys_both 3 (pos 220) 8) 0 5
     (accepted 1 4 ++ (answer 5 0 0 0 ∷ trade 0 0 130 8 3 1 ∷ trade 1 0 90 8 3 2 ∷ pair 3 (pos 220) 8 ∷ []))
-    -- rule: P5
     -- "Away offers 60 and 40 added, N 105, 8: 15 in series 0 and none in 1 (-25)."
     ∷ session 200 (opening ++ away_added ++ buys_both 3 (pos 105) 8) 0 7
     (accepted 1 6 ++ (answer 7 0 1 1 ∷ generated 3 0 0 15 15 8 ∷ []))
     -- "The same with N 106: none."
     ∷ session 200 (opening ++ away_added ++ buys_both 3 (pos 106) 8) 0 7 (accepted 1 7)
-    -- rule: P7
     -- "O -200: -190 in band, -189 not."
     ∷ band 300 100 (minus 190) true
     ∷ band 300 100 (minus 189) false
-    -- rule: P7
     -- "O 0: 0 in, 1 not."
     ∷ band 100 100 (pos 0) true
     ∷ band 100 100 (pos 1) false
@@ -271,7 +265,6 @@ starred =
     ∷ band 100 300 (pos 211) false
     ∷ band 0 100 (minus 1000) false
     ∷ band 100 0 (minus 1000) false
-    -- rule: O1
     -- "Sell 6 at 115 to 115 regular 2 and legging 8: 2, then 4."
     ∷ session 400 (opening ++ buys_both 3 (pos 205) 8 ++ enters 4 0 buy 115 2 ++ enters 5 0 sell 115 6) 0 7
     (accepted 1 4 ++ (answer 5 0 5 2 ∷ generated 3 0 0 115 115 8 ∷ generated 3 1 0 75 75 8 ∷ answer 6 0 5 2

@@ -13,39 +13,31 @@ use Rattle.rules.specs.Base.{if◌then◌else◌, held}
 -- Sides, signs, statuses ----------------------------------------------------------------------
 
 -- "Side 0 buy, 1 sell"
--- rule: W4
 abbrev pub buy : ℕ
 buy = 0
 
--- rule: W4
 abbrev pub sell : ℕ
 sell = 1
 
 -- the other side: the one that a leg or an order takes ("A buy leg takes offers, a sell leg bids")
--- rule: P3
 unfoldable pub opposite : ℕ → ℕ
 opposite d = 1 - d
 
 -- "the sign of a buy leg is +1, of a sell leg -1": sign × z
--- rule: W4
 unfoldable pub sign_times : (side : ℕ) → ℤ → ℤ
 sign_times d z = if eqb d buy then z else neg_ℤ z
 
 -- "Class 0 customer, 1 other"
--- rule: W7
 abbrev pub customer : ℕ
 customer = 0
 
--- rule: W7
 abbrev pub other_class : ℕ
 other_class = 1
 
 -- "Status 0 closed, 1 open, 2 auction"
--- rule: W8
 abbrev pub closed : ℕ
 closed = 0
 
--- rule: W8
 abbrev pub opened : ℕ
 opened = 1
 
@@ -55,56 +47,45 @@ unfoldable pub within : (low high x : ℕ) → Bool
 within low high x = leb low x && leb x high
 
 -- "Ids are chosen by the sender, 1 to 4,294,967,295"
--- rule: W10
 unfoldable pub is_id : ℕ → Bool
 is_id = within 1 4294967295
 
 -- "8 option series (0 to 7)"
--- rule: A1
 unfoldable pub is_series : ℕ → Bool
 is_series = within 0 7
 
--- rule: W4
 unfoldable pub is_side : ℕ → Bool
 is_side = within 0 1
 
--- rule: W7
 unfoldable pub is_class : ℕ → Bool
 is_class = within 0 1
 
--- rule: W8
 unfoldable pub is_status : ℕ → Bool
 is_status = within 0 2
 
 -- "Quantity 1 to 10,000"
--- rule: W3
 unfoldable pub is_quantity : ℕ → Bool
 is_quantity = within 1 10000
 
 -- "Away prices 0 to 100,000, 0 meaning none"
--- rule: W9
 unfoldable pub is_away : ℕ → Bool
 is_away = within 0 100000
 
 -- "Prices are whole cents, 1 to 100,000"
--- rule: W1
 unfoldable pub is_price : ℕ → Bool
 is_price = within 1 100000
 
 -- "a complex order's limit N, from -200,000 to 200,000", or as far as `far` on both sides of 0
--- rule: W6, (g)1
 unfoldable pub is_limit : (far : ℕ) → ℤ → Bool
 is_limit far n = le_z (neg_ℤ (pos far)) n && le_z n (pos far)
 
 -- request (g): "two ratio bytes …, each 1 to 3"
--- rule: (g)1
 unfoldable pub is_ratio : ℕ → Bool
 is_ratio = within 1 3
 
 -- Places --------------------------------------------------------------------------------------
 
 -- "A legging place is 2 × series + side: 16 places, one order each."
--- rule: W12
 unfoldable pub place_of : (series side : ℕ) → ℕ
 place_of s d = 2 * s + d
 
@@ -133,7 +114,6 @@ abbrev pub not_listed : Listed
 not_listed = record { status = 0; bid = 0; offer = 0 }
 
 -- a series as a fresh venue has it
--- rule: (l)1
 abbrev pub newly_listed : Listed
 newly_listed = record { status = opened; bid = 0; offer = 0 }
 
@@ -146,7 +126,6 @@ no_generations = record { messages = replicate 20 0 }
 -- "Fresh: no orders, all series closed, no away prices, last id 0."; request (l): "A fresh venue now has every series open."
 -- "At most 128 regular and 32 complex orders rest"; 02 (d): "The venue keeps up to 32 editions"; 02 (m): none generated, and no id looked
 -- at
--- rule: W11, (l)1
 unfoldable pub fresh_venue : Venue
 fresh_venue = record {
   regular = replicate 128 no_regular;
@@ -166,14 +145,12 @@ regular_at v i = get_or v.regular i no_regular
 unfoldable pub complex_at : Venue → ℕ → Complex
 complex_at v i = get_or v.complex i no_complex
 
--- rule: W12
 unfoldable pub legging_at : Venue → (series side : ℕ) → Legging
 legging_at v s d = get_or v.legging (place_of s d) no_legging
 
 abbrev pub listed_at : Venue → (series : ℕ) → Listed
 listed_at v s = get_or v.series s not_listed
 
--- rule: W8
 unfoldable pub status_of : Venue → (series : ℕ) → ℕ
 status_of v s = (listed_at v s).status
 
@@ -226,15 +203,12 @@ unfoldable pub is_complex_of : (id : ℕ) → Complex → Bool
 is_complex_of id c = held c.quantity && eqb c.id id
 
 -- a complex order of kind 2: "one-to-one ratio"; every other one is of kind 10 (request (g))
--- rule: (g)6
 unfoldable pub one_to_one : Complex → Bool
 one_to_one c = eqb c.ratio1 1 && eqb c.ratio2 1
 
 -- "a lower id is earlier"
--- rule: W10
 unfoldable pub earlier : Regular → Regular → Bool
 earlier a b = ltb a.id b.id
 
--- rule: W10
 unfoldable pub earlier_complex : Complex → Complex → Bool
 earlier_complex a b = ltb a.id b.id

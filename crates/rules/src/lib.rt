@@ -1,9 +1,8 @@
 // The venue of document 01 and what rests in it, a message, and why a legging order goes.
 // The definitions (specs/) use these types as their records: an array is a list, an unsigned number a natural one, an i32 an integer.
 
-// A regular order: quantity is what is left of it, reserve the part of that which it does not show, display the quantity that it shows again before settling
-// (or what is left of it, where that is less). Its place is free when its quantity is 0.
-// rule: A1, (e)1
+// A regular order: quantity is what is left of it, reserve what of that it does not show, display the shown quantity that it shows again before settling (or
+// what is left of it, where that is less). Its place is free when its quantity is 0.
 #[derive(Drop)]
 pub struct Regular {
     pub id: u32,
@@ -17,7 +16,6 @@ pub struct Regular {
 
 // A two-leg complex order; limit is N. A unit of it is ratio1 contracts of the first leg and ratio2 of the second, and its quantity is in units.
 // Its place is free when its quantity is 0.
-// rule: A1, (g)1
 #[derive(Drop)]
 pub struct Complex {
     pub id: u32,
@@ -33,7 +31,6 @@ pub struct Complex {
 }
 
 // A legging order; its place says its series and side. The place is free when its quantity is 0.
-// rule: A1
 #[derive(Drop)]
 pub struct Legging {
     pub parent: u32,
@@ -42,7 +39,6 @@ pub struct Legging {
 }
 
 // A series' status and its away prices (0: none).
-// rule: A1
 #[derive(Drop)]
 pub struct Listed {
     pub status: u8,
@@ -52,7 +48,6 @@ pub struct Listed {
 
 // An edition of a figure, with the number of the message that entered it: figure 0 to 7 is the increment of that series, 8 the percent of the band.
 // Its place is free when its edition is 0.
-// rule: (d)2
 #[derive(Drop)]
 pub struct Edition {
     pub edition: u32,
@@ -62,13 +57,11 @@ pub struct Edition {
 }
 
 // The numbers of the messages of a series' last 20 generations, oldest first; 0 where there were fewer.
-// rule: (m)3
 #[derive(Drop)]
 pub struct Generations {
     pub messages: [u32; 20],
 }
 
-// rule: A1
 #[derive(Drop)]
 pub struct Venue {
     pub regular: [Regular; 128],
@@ -83,7 +76,6 @@ pub struct Venue {
 }
 
 // One leg of a complex order.
-// rule: A1
 #[derive(Drop)]
 pub struct Leg {
     pub series: u8,
@@ -91,7 +83,6 @@ pub struct Leg {
 }
 
 // What a call returns: its number, the messages done (refused ones counted), the bytes written, the venue.
-// rule: R14
 #[derive(Drop)]
 pub struct Returned {
     pub number: u8,
@@ -100,7 +91,7 @@ pub struct Returned {
     pub venue: Venue,
 }
 
-// The settings in force at a message number, with the number 0; for an unsound venue the number 9 and zeros.
+// The settings in force at a message number, with the number 0; of an unsound venue 9 and zeros.
 #[derive(Drop)]
 pub struct Settings {
     pub number: u8,
@@ -109,7 +100,6 @@ pub struct Settings {
 }
 
 // A message, kinds 1 to 11: an order of kind 1 is one of kind 9 that shows all of it, and TwoLeg is kind 2 where it is one to one, else kind 10.
-// rule: (e)7, (g)9
 #[derive(Drop)]
 pub enum Message {
     Order(Regular),

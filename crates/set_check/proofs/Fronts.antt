@@ -1,4 +1,4 @@
--- The kinds of a set's records: their lengths, what each has, and its part.
+-- The kinds of a set's records: their lengths, what each tells, and its part.
 use mathlib.Core.Path.{◌≡◌, refl, sym, ap, ◌∙◌}
 use mathlib.Core.Bool.{Bool, true, false, not, ◌&&◌, ◌||◌}
 use mathlib.Core.List.{List}

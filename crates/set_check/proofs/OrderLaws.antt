@@ -1,4 +1,4 @@
--- The conditions on a record, case by case: its part, whether it may stand where it does, and whether there is a place for what it has.
+-- What is asked of a record, case by case: its part, whether it may stand where it does, and whether what it tells has a place.
 use mathlib.Core.Path.{◌≡◌, refl, sym, ap, ◌∙◌}
 use mathlib.Core.Bool.{Bool, true, false, not, ◌&&◌, ◌||◌}
 use mathlib.Core.List.{List}
@@ -190,7 +190,7 @@ module _ (x y : ℕ) (z : x ≡ y) (b : Bool) where
   unfolding is_series within
   series-in h = rw (le-leb 0 y (omega arith), le-leb y 7 (omega arith))
 
--- what a legging order's record has
+-- what a legging order's record tells
 module _ (r : List ℕ) (x : ℕ) (z : x ≡ u8_at r 8) where
   abbrev LeggingPlaced : Bool
   LeggingPlaced = is_series (u8_at r 8) && is_side (u8_at r 9) && held (u32_at r 14)
@@ -208,7 +208,7 @@ module _ (r : List ℕ) (x : ℕ) (z : x ≡ u8_at r 8) where
     unfolding is_series is_side within
     legging-quantity q v h k = rw (le-leb 0 (u8_at r 8) (omega arith), le-leb (u8_at r 8) 7 (omega arith), le-leb 0 (u8_at r 9) (omega arith), le-leb (u8_at r 9) 1 (omega arith), v)
 
--- what a complex order's record has
+-- what a complex order's record tells
 module _ (r : List ℕ) (q : ℕ) (z : q ≡ u32_at r 17) where
   abbrev Placed : Bool
   Placed = held (u32_at r 17) && not (eqb (kind_field r) 10 && one_to_one (complex_told r))

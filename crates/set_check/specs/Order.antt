@@ -1,4 +1,4 @@
--- Document 02 (h): a set's records in one pass, each checked against the records before it: its order, the counts, and a place for its fields.
+-- Document 02 (h): a set's records in one pass, each beside what the ones before it leave: its order, its counts and its fields' places.
 use Rattle.std.specs.Prelude.{Bool, true, false, not, ◌&&◌, ◌||◌, List, [], ◌∷◌, ℕ, ◌+◌, ◌-◌, ◌/◌, ◌%◌, leb, ltb, eqb, length}
 use Rattle.rules.specs.Base.{if◌then◌else◌, all}
 use Rattle.rules.specs.Bytes.{u8_at, length_field, kind_field}
@@ -10,7 +10,7 @@ use Rattle.set_check.specs.declared.SetProgress.{SetProgress}
 
 -- Frames --------------------------------------------------------------------------------------
 
--- what stands at the front of the bytes left: the end of the set; bytes that are torn or of a kind or length that no set has; or a record of this length
+-- what stands in front of the bytes left: the end of the set, what is torn or of a kind or length not the set's, or a record of this length
 unfoldable pub front_of : List ℕ → Front
 front_of bs =
     if eqb (length_field bs) 0 then End
@@ -60,24 +60,24 @@ may_stand st r = ltb st.part (part r) || (eqb st.part (part r) && (ltb st.key (s
 unfoldable pub is_next : SetProgress → List ℕ → Bool
 is_next st r = if ltb st.opened opening then opens st r else (of_this st r && may_stand st r)
 
--- 1 for true, 0 for false
+-- 1 for what is so
 unfoldable pub one_if : Bool → ℕ
 one_if true = 1
 one_if false = 0
 
--- how many of the first records were read, with this one
+-- how many of the first records were read, this one too
 unfoldable pub opened_after : SetProgress → ℕ
 opened_after st = if ltb st.opened opening then st.opened + 1 else st.opened
 
--- whether the set is a whole one: its first record says so
+-- the first record tells a whole set from a short one
 unfoldable pub is_whole : SetProgress → List ℕ → Bool
 is_whole st r = if eqb st.opened 0 then eqb (kind_field r) 80 else st.whole
 
--- how many generations of one series there are in a row, with this record
+-- how many generations of one series there are in a row, this record too
 unfoldable pub run_with : SetProgress → List ℕ → ℕ
 run_with st r = if same_series st r then st.run + one_if (tells_generation r) else one_if (tells_generation r)
 
--- where the check stands after one more record
+-- what a record leaves of the standing before it
 unfoldable pub onward : SetProgress → List ℕ → SetProgress
 onward st r = record {
   opened = opened_after st;
@@ -93,16 +93,16 @@ onward st r = record {
   placed = st.placed && has_place r;
 }
 
--- none is one too many
+-- not one too many
 unfoldable pub few : SetProgress → Bool
 few st = leb st.editions 32 && leb st.regulars 128 && leb st.complexes 32 && leb st.leggings 16 && leb st.run 20
 
--- from where the check stands, the records are those of a set, to its end
+-- from a standing on, the records are those of a set, to its end
 unfoldable pub goes_on : SetProgress → List (List ℕ) → Bool
 goes_on st [] = not (ltb st.opened opening)
 goes_on st (r ∷ rs) = is_next st r && few (onward st r) && goes_on (onward st r) rs
 
--- 0, 16 or 9 from where the check stands: "16 comes before 9"
+-- 0, 16 or 9 from a standing on: "16 comes before 9"
 unfoldable pub looked_at : SetProgress → Held → ℕ
 looked_at st broken = 16
 looked_at st (row rs) = if goes_on st rs then (if st.placed && all has_place rs then 0 else 9) else 16

@@ -1,4 +1,4 @@
-// Checks the records of a set (document 02 (h), crate sets) in one pass: their order, how many there are, and that a venue has a place for each.
+// The records of a set (document 02 (h), crate sets) looked at in one pass, for their order and their places.
 ghost use Rattle.std.specs.Prelude.{◌≡◌, true, not, ◌&&◌, [], ◌≤◌, ◌<◌, eqb, drop};
 ghost use Rattle.rules.specs.Base.{held};
 ghost use Rattle.rules.specs.Words.{place_of, is_series, is_side, one_to_one};
@@ -9,7 +9,7 @@ ghost use Rattle.set_check.specs.Order.{front_of, none_read, opens, of_this, sam
 
 // Records -------------------------------------------------------------------------------------
 
-// What stands at a position: the end of the set; bytes that are torn or of a kind or length that no set has; or a record of this length.
+// What stands at a position: the end of the set, what is torn or of a kind or length not the set's, or a record of this length.
 #[derive(Drop)]
 pub enum Front {
     End,
@@ -17,7 +17,7 @@ pub enum Front {
     Record(u16),
 }
 
-// The length of a record of kind 0 to 10; 0 for a kind that no set has. A setting has its message number after it. It compares in order, as `length_of` does.
+// The length of a message's record in a set: a setting has its message number after it. It compares in order, as `length_of` does.
 fn early_length(kind: u16) -> u16
     requires { kind ≤ 10 }
     ensures { result ≡ set_length kind }
@@ -43,7 +43,7 @@ fn early_length(kind: u16) -> u16
     arithmetic::length_of(kind)
 }
 
-// The length of each kind of record; 0 for a kind that no set has.
+// The length of each kind of record; 0 for what is none.
 fn set_length(kind: u16) -> u16
     ensures { result ≡ set_length kind }
 {
@@ -92,7 +92,7 @@ pub fn kind_of(r: &[u8]) -> u16
     wire::u16_at(r, 2)
 }
 
-// A record has an edition: it is of kind 7 or 8.
+// A record tells an edition: of kind 7 or 8.
 pub fn tells_edition(r: &[u8]) -> bool
     ensures { result ≡ tells_edition r.now }
 {
@@ -103,7 +103,7 @@ pub fn tells_edition(r: &[u8]) -> bool
     kind == 8
 }
 
-// A record has a resting regular order: it is of kind 1 or 9.
+// A record tells a resting regular order: of kind 1 or 9.
 pub fn tells_regular(r: &[u8]) -> bool
     ensures { result ≡ tells_regular r.now }
 {
@@ -114,7 +114,7 @@ pub fn tells_regular(r: &[u8]) -> bool
     kind == 9
 }
 
-// A record has a resting complex order: it is of kind 2 or 10.
+// A record tells a resting complex order: of kind 2 or 10.
 pub fn tells_complex(r: &[u8]) -> bool
     ensures { result ≡ tells_complex r.now }
 {
@@ -125,14 +125,14 @@ pub fn tells_complex(r: &[u8]) -> bool
     kind == 10
 }
 
-// A record has a legging order: it is of kind 82.
+// A record tells a legging order: of kind 82.
 pub fn tells_legging(r: &[u8]) -> bool
     ensures { result ≡ tells_legging r.now }
 {
     kind_of(r) == 82
 }
 
-// A record has a generation: it is of kind 83.
+// A record tells a generation: of kind 83.
 pub fn tells_generation(r: &[u8]) -> bool
     ensures { result ≡ tells_generation r.now }
 {
@@ -141,7 +141,7 @@ pub fn tells_generation(r: &[u8]) -> bool
 
 // Order ---------------------------------------------------------------------------------------
 
-// The part of a set that a record is in, after the first 17 records: editions (1), resting orders, legging orders, generations, the id reached (5).
+// The part of a set that a record is of, after its first ones: editions, resting orders, legging orders, generations, the id reached.
 fn part_of(r: &[u8]) -> u8
     ensures { result ≡ part r.now }
 {
@@ -173,7 +173,7 @@ fn wide(x: u8) -> u32
     x as u32
 }
 
-// The place of the legging order in a record.
+// The place of a legging order.
 pub fn place_of(r: &[u8]) -> u32
     ensures { result ≡ place_of (u8_at r.now 8) (u8_at r.now 9) }
 {
@@ -182,7 +182,7 @@ pub fn place_of(r: &[u8]) -> u32
     2 * series + side
 }
 
-// The number by which the records of a part rise: edition, id or place; for generations the series.
+// By what the records of a part rise: edition, id, place; of generations the series.
 fn sort_key(r: &[u8]) -> u32
     ensures { result ≡ sort_key r.now }
 {
@@ -206,15 +206,15 @@ fn sort_key(r: &[u8]) -> u32
     0
 }
 
-// The message number in a generation's record.
+// The message number that a generation's record tells.
 pub fn told_of(r: &[u8]) -> u32
     ensures { result ≡ generation_told r.now }
 {
     wire::u32_at(r, 5)
 }
 
-// Where the check stands: how many of the first records it has read; whether the set is a whole one; part, sort key and message number of the record before;
-// how many editions, orders and legging orders there were, and generations of one series in a row; and whether all had a place.
+// Where the reading stands: how many of the first records were read, whether the set is a whole one, part, sort key and message number of the record before, how
+// many of each part there were and of generations of the present series, and whether all had a place.
 #[derive(Drop)]
 pub struct SetProgress {
     opened: u8,
@@ -230,7 +230,7 @@ pub struct SetProgress {
     placed: bool,
 }
 
-// Where the check stands before the first record.
+// Where the reading stands before the first record.
 fn none_read() -> SetProgress
     ensures { result ≡ none_read }
 {
@@ -268,7 +268,7 @@ fn is_opening(st: SetProgress, r: &[u8]) -> bool
     wire::u8_at(r, 4) == (opened - 1) / 2
 }
 
-// A record that a whole set can have after its first 17.
+// A record of a whole set.
 fn of_whole(r: &[u8]) -> bool
     ensures { result ≡ of_whole r.now }
 {
@@ -278,7 +278,7 @@ fn of_whole(r: &[u8]) -> bool
     kind_of(r) != 1
 }
 
-// A record that a short set can have after its first 17.
+// A record of a short set.
 fn of_short(r: &[u8]) -> bool
     ensures { result ≡ of_short r.now }
 {
@@ -292,7 +292,7 @@ fn of_short(r: &[u8]) -> bool
     kind_of(r) != 9
 }
 
-// A record that this set, whole or short, can have after its first 17.
+// A record is one of the kind of set that is read, whole or short.
 fn of_this(st: SetProgress, r: &[u8]) -> bool
     ensures { result ≡ of_this st r.now }
 {
@@ -302,7 +302,7 @@ fn of_this(st: SetProgress, r: &[u8]) -> bool
     of_short(r)
 }
 
-// The record before is a generation, and this record has the same sort key: a generation of the same series.
+// A generation is of the series of the record before it, a generation too.
 fn same_series(st: SetProgress, r: &[u8]) -> bool
     ensures { result ≡ same_series st r.now }
 {
@@ -332,7 +332,7 @@ fn may_stand(st: SetProgress, r: &[u8]) -> bool
     st.told <= told_of(r)
 }
 
-// A record may come next.
+// A record may stand where the reading stands.
 fn is_next(st: SetProgress, r: &[u8]) -> bool
     ensures { result ≡ is_next st r.now }
 {
@@ -347,7 +347,7 @@ fn is_next(st: SetProgress, r: &[u8]) -> bool
 
 // Places --------------------------------------------------------------------------------------
 
-// A venue has a place for what a record of kind 7 has.
+// What a kind 7 tells has a place.
 fn increment_placed(r: &[u8]) -> bool
     ensures { result ≡ (is_series (u8_at r.now 4) && held (u32_at r.now 6)) }
 {
@@ -357,7 +357,7 @@ fn increment_placed(r: &[u8]) -> bool
     wire::u32_at(r, 6) != 0
 }
 
-// A venue has a place for what a record of kind 2 or 10 has.
+// What a kind 2 or 10 tells has a place.
 fn complex_placed(r: &[u8]) -> bool
     ensures { result ≡ (held (u32_at r.now 17) && not (eqb (kind_field r.now) 10 && one_to_one (complex_told r.now))) }
 {
@@ -373,7 +373,7 @@ fn complex_placed(r: &[u8]) -> bool
     wire::u8_at(r, 22) != 1
 }
 
-// A venue has a place for what a record of kind 82 has.
+// What a kind 82 tells has a place.
 fn legging_placed(r: &[u8]) -> bool
     ensures { result ≡ (is_series (u8_at r.now 8) && is_side (u8_at r.now 9) && held (u32_at r.now 14)) }
 {
@@ -386,7 +386,7 @@ fn legging_placed(r: &[u8]) -> bool
     wire::u32_at(r, 14) != 0
 }
 
-// A venue has a place for what a record of kind 83 has.
+// What a kind 83 tells has a place.
 fn generation_placed(r: &[u8]) -> bool
     ensures { result ≡ (is_series (u8_at r.now 4) && held (u32_at r.now 5)) }
 {
@@ -396,7 +396,7 @@ fn generation_placed(r: &[u8]) -> bool
     wire::u32_at(r, 5) != 0
 }
 
-// A venue has a place for what a record has.
+// A venue has a place for what a record tells.
 fn has_place(r: &[u8]) -> bool
     ensures { result ≡ has_place r.now }
 {
@@ -448,7 +448,7 @@ fn opened_after(st: SetProgress) -> u8
     opened
 }
 
-// The set is a whole one, by the kind of its first record.
+// The set is a whole one, as its first record says.
 fn is_whole(st: SetProgress, r: &[u8]) -> bool
     ensures { result ≡ is_whole st r.now }
 {
@@ -458,7 +458,7 @@ fn is_whole(st: SetProgress, r: &[u8]) -> bool
     st.whole
 }
 
-// How many generations of one series there are in a row, with this record.
+// How many generations of the present series there are with this record.
 fn run_with(st: SetProgress, r: &[u8]) -> u8
     requires { few st ≡ true }
     ensures { result ≡ run_with st r.now }
@@ -480,7 +480,7 @@ fn still_placed(st: SetProgress, r: &[u8]) -> bool
     has_place(r)
 }
 
-// Where the check stands after one more record.
+// What a record leaves of the standing before it.
 fn passed(st: SetProgress, r: &[u8]) -> SetProgress
     requires { few st ≡ true }
     ensures { result ≡ onward st r.now }
@@ -500,7 +500,7 @@ fn passed(st: SetProgress, r: &[u8]) -> SetProgress
     }
 }
 
-// There are at most 32 editions, 128 regular, 32 complex and 16 legging orders, and 20 generations of a series.
+// Not one too many.
 fn are_few(st: SetProgress) -> bool
     ensures { result ≡ few st }
 {
@@ -519,7 +519,7 @@ fn are_few(st: SetProgress) -> bool
     st.run <= 20
 }
 
-// What the check returns where the set ends.
+// The answer where the set ends.
 fn ended(st: SetProgress) -> u8
     ensures { result ≡ looked_at st (row []) }
 {
@@ -532,7 +532,7 @@ fn ended(st: SetProgress) -> u8
     0
 }
 
-// 16 where a memory holds no set, 9 where a record has something that no venue has a place for, else 0.
+// 16 where what a memory holds is no set, 9 where it tells what no venue has a place for, and 0.
 pub fn look(memory: &[u8]) -> u8
     ensures { result ≡ looked_at none_read (held_in memory.now) }
 {

@@ -14,11 +14,11 @@ record_if t r = if t then r else []
 unfoldable pub orders_from : List ℕ → (n m i j : ℕ) → List (List ℕ)
 orders_from b n m i j = by_id (n - i + (m - j)) (upto (regular_in b) i (n - i)) (upto (complex_in b) j (m - j))
 
--- the regular order at place i is the next one: it is there, and the complex order at place j, if there is one, has a higher id
+-- the regular order at place i is the next one: it is there, and none of the complex orders from place j on has a lesser id
 unfoldable pub regular_next : List ℕ → (n m i j : ℕ) → Bool
 regular_next b n m i j = if leb n i then false else if leb m j then true else ltb (regular_in b i).id (complex_in b j).id
 
--- from t to r one more order is written
+-- from t to r one order more is written
 pub record OneMore (b : List ℕ) (n m : ℕ) (t : Orders) (l₀ : List ℕ) (r : Orders) (l : List ℕ) : Type 0 where
   pub same : set_memory l r.at adds joined (orders_from b n m r.regular r.complex) ≡ set_memory l₀ t.at adds joined (orders_from b n m t.regular t.complex)
   pub regular : r.regular ≤ n

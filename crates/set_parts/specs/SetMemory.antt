@@ -1,5 +1,5 @@
--- What is written of a set in the caller's memory, up to a position, and what more bytes make of it. Where they do not fit it says nothing of the bytes: the
--- call is refused, and writes zeros to the whole memory.
+-- What is written of a set in lent memory, up to a position, and what more bytes make of it. Where they do not fit nothing is said of the bytes: the call is
+-- refused, and the memory made all zero.
 use Rattle.std.specs.Prelude.{List, [], ◌++◌, ℕ, suc, ◌+◌, leb, length, take}
 use Rattle.rules.specs.Base.{if◌then◌else◌}
 

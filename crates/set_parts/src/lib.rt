@@ -1,4 +1,4 @@
-// Writes the parts of a venue's set of records (document 02 (h), crate sets) from the numbers of the venue.
+// The parts of a venue's set of records (document 02 (h), crate sets), each written from the numbers of the venue.
 ghost use Rattle.std.specs.Prelude.{◌≡◌, ◌∷◌, ◌++◌, map, ◌+◌, ◌≤◌, length};
 ghost use Rattle.rules.specs.declared.Message.TheVariants.{Away, Status};
 ghost use Rattle.rules.specs.Base.{held, keep};
@@ -15,7 +15,7 @@ ghost use Rattle.set_parts.specs.Requirements.{OrdersLeft};
 
 use rules::{Complex, Edition, Legging, Listed, Regular};
 
-// How far the orders of both books are written: the position, and the next place of each book.
+// Where the orders of both books stand: the position, and the next place of either.
 #[derive(Drop)]
 pub struct Orders {
     at: usize,
@@ -42,7 +42,7 @@ fn put_status(out: &mut [u8], at: usize, s: u8, status: u8) -> usize
     records::put(out, at, &record)
 }
 
-// 4: a series' away prices.
+// 4: its away prices.
 fn put_away(out: &mut [u8], at: usize, s: u8, bid: u32, offer: u32) -> usize
     ensures { set_memory out.new result ≡ set_memory out.old at adds encode_message (Away s bid offer) }
 {
@@ -75,7 +75,7 @@ fn put_edition(out: &mut [u8], at: usize, e: Edition) -> usize
     records::put_words(out, at, &head, &words)
 }
 
-// 9: a regular order, with what is left of it and what it shows.
+// 9: a regular order, with what is left and what shows.
 fn put_regular(out: &mut [u8], at: usize, o: Regular) -> usize
     ensures { set_memory out.new result ≡ set_memory out.old at adds regular_record o }
 {
@@ -105,7 +105,7 @@ fn put_ratios(out: &mut [u8], at: usize, c: Complex) -> usize
     records::put(out, at, &ratios)
 }
 
-// 2 or 10: a complex order, with what is left of it.
+// 2 or 10: a complex order, with what is left.
 fn put_complex(out: &mut [u8], at: usize, c: Complex) -> usize
     ensures { set_memory out.new result ≡ set_memory out.old at adds complex_record c }
 {
@@ -185,7 +185,7 @@ pub fn put_editions(numbers: &[u32], out: &mut [u8], at: usize) -> usize
     pos
 }
 
-// Of the orders left in n regular and m complex places, the regular order at place i comes next, before the complex order at place j.
+// Of the orders left in n regular and m complex places, the regular one at place i comes next, and not the complex one at place j.
 fn regular_next(numbers: &[u32], n: usize, m: usize, i: usize, j: usize) -> bool
     requires { (length numbers.now ≡ size) × (n ≤ 128) × (m ≤ 32) }
     ensures { result ≡ regular_next numbers.now n m i j }
@@ -200,7 +200,7 @@ fn regular_next(numbers: &[u32], n: usize, m: usize, i: usize, j: usize) -> bool
     places::regular_id(numbers, i) < c.id
 }
 
-// Writes one more order, of the book whose next id is lower.
+// One order more, of either book.
 fn put_next(numbers: &[u32], n: usize, m: usize, t: Orders, out: &mut [u8]) -> Orders
     requires { OrdersLeft numbers.now n m t }
     ensures { OneMore numbers.now n m t out.old result out.new }
@@ -244,7 +244,7 @@ pub fn put_orders(numbers: &[u32], out: &mut [u8], at: usize) -> usize
     t.at
 }
 
-// The legging orders of a series, side 0 first.
+// The legging orders of a series, its first side's first.
 fn put_sides(numbers: &[u32], out: &mut [u8], at: usize, s: usize) -> usize
     requires { SeriesReady numbers.now s }
     ensures { set_memory out.new result ≡ set_memory out.old at adds (side_record numbers.now s 0 ++ side_record numbers.now s 1) }
@@ -284,7 +284,7 @@ fn put_generations(numbers: &[u32], out: &mut [u8], at: usize, s: usize) -> usiz
     pos
 }
 
-// The last generations of each series in turn.
+// Those of each series in turn.
 pub fn put_all_generations(numbers: &[u32], out: &mut [u8], at: usize) -> usize
     requires { length numbers.now ≡ size }
     ensures { set_memory out.new result ≡ set_memory out.old at adds joined (generation_records 0 (venue_of numbers.now).generations) }

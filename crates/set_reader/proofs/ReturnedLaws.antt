@@ -1,24 +1,17 @@
 -- The answer of a reading call.
 use mathlib.Core.Path.{◌≡◌, refl, sym, ap, ap₂, ◌∙◌}
-use mathlib.Core.Bool.{Bool, true, false}
-use mathlib.Core.List.{List}
+use mathlib.Core.Bool.{Bool, true, false, not, ◌&&◌, true≢false}
+use mathlib.Core.List.{List, []}
 use Prim.Native.Nat.{ℕ}
 use native.Mathlib.Omega.{arith}
+use lib.ListN.{get_or}
 use Rattle.rules.specs.declared.Venue.{Venue}
-use Rattle.rules.specs.Words.{fresh_venue}
 use Rattle.rules.specs.Base.{if◌then◌else◌, all}
-use Rattle.sets.specs.Set.{Held, broken, row, held_in, is_set, has_place, carries, number_told, venue_told, not_read, read_row, read_set}
-use Rattle.set_check.specs.Order.{none_read, looked_at}
-use Rattle.venue_bytes.specs.Held.{venue_bytes, venue_from}
-use Rattle.set_tables.specs.Told.{row_in, ReadableSet, Holds}
+use Rattle.sets.specs.Set.{Held, broken, row, held_in, is_set, has_place, carries, number_told, venue_told, ReadSet, not_read, read_row, read_set}
+use Rattle.set_check.specs.Order.{none_read, goes_on, looked_at}
+use Rattle.set_tables.specs.Told.{row_in, ReadableSet}
 use Rattle.set_tables.proofs.Ordered.{set-goes}
 use Rattle.set_tables.proofs.TableFilled.{row-in}
-use Rattle.set_reader.specs.Returned.{set_read, as_bytes}
-
--- a refused set leaves the bytes of a fresh venue
-pub refused-bytes : (n : ℕ) (v : Venue) (bs : List ℕ) → v ≡ fresh_venue → bs ≡ venue_bytes v → set_read (record { number = n; message = 0 }) bs ≡ as_bytes (not_read n)
-unfolding as_bytes not_read
-refused-bytes n v bs e p = ap (set_read (record { number = n; message = 0 })) (p ∙ ap venue_bytes e)
 
 -- the set that was looked at
 looked-set : (rs : List (List ℕ)) → looked_at none_read (row rs) ≡ (if is_set rs then (if all has_place rs then 0 else 9) else 16)
@@ -61,16 +54,14 @@ module _ (m : List ℕ) where
       go broken e k = ap not_read (k ∙ looked-broken) ∙ sym (held-read broken e)
       go (row rs) e k = both rs (is_set rs) (all has_place rs) refl refl (k ∙ looked-set rs) ∙ sym (held-read (row rs) e)
 
-  module _ (t : ReadableSet m) (bs : List ℕ) (held : Holds bs (venue_told (row_in m))) (number : ℕ) (says : number ≡ number_told (row_in m)) (ready : Bool)
-      (asked : ready ≡ carries number (venue_from bs)) where
+  module _ (t : ReadableSet m) (v : Venue) (told : v ≡ venue_told (row_in m)) (number : ℕ) (says : number ≡ number_told (row_in m)) (ready : Bool) (asked : ready ≡ carries number v) where
     same : ready ≡ carries (number_told (row_in m)) (venue_told (row_in m))
-    same = asked ∙ ap₂ carries says held.back
+    same = asked ∙ ap₂ carries says told
 
     pub carries-refused : ready ≡ false → not_read 9 ≡ read_set m
     carries-refused r = sym (held-read (row (row_in m)) t.framed ∙ (unfold read_row in (rw (t.ordered, t.placed, sym same ∙ r))))
 
-    pub carries-read : ready ≡ true → set_read (record { number = 0; message = number }) bs ≡ as_bytes (read_set m)
-    unfolding as_bytes
+    pub carries-read : ready ≡ true → ◌≡◌ {A = ReadSet} (record { number = 0; venue = v; message = number }) (read_set m)
     carries-read r =
-        ap₂ (λ (x : List ℕ) (n : ℕ). set_read (record { number = 0; message = n }) x) held.bytes says
-        ∙ sym (ap as_bytes (held-read (row (row_in m)) t.framed ∙ (unfold read_row in (rw (t.ordered, t.placed, sym same ∙ r)))))
+        ap₂ (λ (x : Venue) (n : ℕ). record { number = 0; venue = x; message = n }) told says
+        ∙ sym (held-read (row (row_in m)) t.framed ∙ (unfold read_row in (rw (t.ordered, t.placed, sym same ∙ r))))

@@ -5,19 +5,19 @@ use mathlib.Core.List.{List, [], ◌∷◌, ◌++◌}
 use mathlib.Core.Logic.{◌⊎◌, inl, inr, ⊎_elim}
 use Prim.Native.Nat.{ℕ, zero, suc, ◌≤◌, ◌<◌, ◌+◌, ◌-◌, ◌/◌, ◌%◌}
 use native.Mathlib.Omega.{arith}
-use lib.Dec.{eqb, ltb}
+use lib.Dec.{eqb, leb, ltb}
 use lib.ListN.{length}
-use borrow.Author.Tests.{eqb-true, eq-eqb, ne_eqb, lt-ltb, le-ltb, ltb-true, ltb-false}
-use Rattle.rules.specs.Base.{if◌then◌else◌, keep}
+use borrow.Author.Tests.{eqb-true, eqb-false, eq-eqb, ne_eqb, lt-ltb, le-ltb, ltb-true, ltb-false, not-true, not-false}
+use Rattle.rules.specs.Base.{if◌then◌else◌, all, keep}
 use Rattle.rules.specs.Bytes.{u8_at, kind_field}
-use Rattle.rules.proofs.Tests.{and_l, and_r}
-use Rattle.sets.specs.Set.{part, sort_key, count_of, of_series, is_set, tells_edition, tells_regular, tells_complex, tells_legging, tells_generation}
+use Rattle.rules.proofs.Tests.{and_in, and_l, and_r, or_r}
+use Rattle.sets.specs.Set.{part, sort_key, in_order, count_of, of_series, is_set, tells_edition, tells_regular, tells_complex, tells_legging, tells_generation, generation_told}
 use Rattle.sets.proofs.Parts.{sort, sort-of}
 use Rattle.sets.proofs.Lists.{Each, keep_append, keep-none, each_more}
 use Rattle.set_check.specs.declared.SetProgress.{SetProgress}
-use Rattle.set_check.specs.Order.{none_read, opens, is_next, may_stand, same_series, onward, few, goes_on}
+use Rattle.set_check.specs.Order.{none_read, opens, is_next, may_stand, same_series, one_if, onward, few, goes_on}
 use Rattle.set_check.proofs.OrderLaws.{Few, few-out}
-use Rattle.set_tables.proofs.Ordered.{count-more, InOrder, order-on, stand-out, Fine, Blank, blank-few, blank-on, opened-more, goes-fine, none-blank, no_part, set-goes}
+use Rattle.set_tables.proofs.Ordered.{count-more, InOrder, order-on, stand-out, Fine, Blank, blank-few, blank-carried, blank-on, opened-more, goes-fine, none-blank, no_part, set-goes}
 
 -- one step of a set
 module _ (st : SetProgress) (r : List ℕ) (rs : List (List ℕ)) (h : goes_on st (r ∷ rs) ≡ true) where
@@ -169,11 +169,11 @@ set-series rs h x =
 
 -- Legging orders --------------------------------------------------------------------------------
 
--- none of these has place n
+-- none of these tells place n
 abbrev pub Untold : (n : ℕ) → List (List ℕ) → Type 0
 Untold n = Each (λ r. (tells_legging r && eqb (sort_key r) n) ≡ false)
 
--- each place is in one record
+-- each place is told once
 abbrev pub Alone : List (List ℕ) → Type 0
 Alone [] = Unit {0}
 Alone (r ∷ rs) = (tells_legging r ≡ true → Untold (sort_key r) rs) × Alone rs
@@ -229,52 +229,3 @@ alone-front (r ∷ front) tail h a = (λ t. let e = leg-part r t in let z = h.0 
 
 pub set-alone : (rs : List (List ℕ)) → is_set rs ≡ true → Alone rs
 set-alone rs h = let t = set-tail rs h in rw t.split (alone-front t.front t.tail t.none (alone t.tail t.before t.fine.order))
-
--- The id reached --------------------------------------------------------------------------------
-
--- nothing follows the record that has it
-abbrev pub Ends : List (List ℕ) → Type 0
-Ends [] = Unit {0}
-Ends (r ∷ rs) = (kind_field r ≡ 84 → rs ≡ []) × Ends rs
-
-reached-part : (r : List ℕ) → kind_field r ≡ 84 → part r ≡ 5
-unfolding part tells_edition tells_regular tells_complex tells_legging tells_generation
-reached-part r k = rw k
-
-part-most : (r : List ℕ) → part r ≤ 5
-unfolding part
-part-most r = go (tells_edition r) (tells_regular r || tells_complex r) (tells_legging r) (tells_generation r) (eqb (kind_field r) 84)
-  where
-    go : (a b c d e : Bool) → (if a then 1 else if b then 2 else if c then 3 else if d then 4 else if e then 5 else 0) ≤ 5
-    go true b c d e = omega arith
-    go false true c d e = omega arith
-    go false false true d e = omega arith
-    go false false false true e = omega arith
-    go false false false false true = omega arith
-    go false false false false false = omega arith
-
-reached-key : (r : List ℕ) → part r ≡ 5 → sort_key r ≡ 0
-unfolding sort_key
-reached-key r e = let k = eqb-true (kind_field r) 84 (sort-of r 5 e).4 in rw (k, e)
-
-ends : (rs : List (List ℕ)) (st : SetProgress) → InOrder st rs → Ends rs
-unfolding onward
-ends [] st h = tt
-ends (r ∷ rs) st h = (λ k. nothing k rs (order-on st r rs h.1), ends rs (onward st r) (order-on st r rs h.1))
-  where
-    nothing : kind_field r ≡ 84 → (l : List (List ℕ)) → InOrder (onward st r) l → l ≡ []
-    nothing k [] o = refl
-    nothing k (q ∷ l) o =
-        let p = reached-part r k in
-        let m = part-most q in
-        let same : part r ≡ part q = ⊎_elim (λ j. omega arith) (λ j. j.0) (stand-out (onward st r) q o.0) in
-        let risen = stand-risen (onward st r) q o.0 same (λ z. omega arith) in
-        let z = reached-key q (omega arith) in
-        absurd (omega arith)
-
-ends-front : (front tail : List (List ℕ)) → Each (λ r. part r ≡ 0) front → Ends tail → Ends (front ++ tail)
-ends-front [] tail h a = a
-ends-front (r ∷ front) tail h a = (λ k. let e = reached-part r k in let z = h.0 in absurd (omega arith), ends-front front tail h.1 a)
-
-pub set-ends : (rs : List (List ℕ)) → is_set rs ≡ true → Ends rs
-set-ends rs h = let t = set-tail rs h in rw t.split (ends-front t.front t.tail t.none (ends t.tail t.before t.fine.order))

@@ -6,17 +6,18 @@ use Prim.Native.Nat.{ℕ, zero, suc, ◌≤◌, ◌<◌, ◌+◌, ◌-◌}
 use native.Mathlib.Omega.{arith}
 use native.Mathlib.Numerals.{add-one}
 use lib.Dec.{eqb}
-use lib.ListN.{length, set, take, drop, replicate, length-drop, length-set, length-map, length-replicate}
-use lib.Seq.{sets, sets-eq, drop-drop}
+use lib.ListN.{length, get_or, set, take, drop, replicate, length-drop, length-set, length-map, length-replicate}
+use lib.Seq.{sets, sets-eq, drop-drop, length-take-le}
 use borrow.Author.Tests.{eq-eqb, ne_eqb}
 use Rattle.rules.specs.Base.{if◌then◌else◌, all, keep}
-use Rattle.rules.specs.Bytes.{length_field, kind_field}
+use Rattle.rules.specs.Bytes.{length_field, kind_field, u8_at, u16_at}
 use Rattle.rules.specs.Refusals.{torn}
-use Rattle.sets.specs.Set.{Held, broken, row, behind, held_in, count_of, places, set_length}
+use Rattle.sets.specs.Set.{Held, broken, row, behind, held_from, held_in, count_of, places, set_length}
 use Rattle.sets.proofs.Rows.{Well, AllWell, held_out}
-use Rattle.set_check.specs.declared.Front.TheVariants.{Broken, Record}
+use Rattle.set_check.specs.declared.Front.{Front}
+use Rattle.set_check.specs.declared.Front.TheVariants.{End, Broken, Record}
 use Rattle.set_check.specs.Order.{front_of, one_if}
-use Rattle.set_tables.specs.Told.{row_in}
+use Rattle.set_tables.specs.Told.{row_in, ReadableSet}
 use Rattle.set_check.proofs.Walks.{InFront, in-front, held-ended, held-broken}
 use Rattle.set_tables.proofs.Ordered.{count-more}
 
@@ -92,7 +93,7 @@ walk_start m size framed e = record { framed = framed; here = e }
 pub walk_end : (m : List ℕ) (at size : ℕ) → Walk m at size → size ≤ 0 → row_in (drop at m) ≡ []
 walk_end m at size w h = let e = w.here in row-ended (drop at m) w.framed (omega arith)
 
--- the record there, and the position after it; its bytes are the slice from `at` to `next`
+-- the record there, and the position after it; its bytes are lent from `at` to `next`
 pub record Step (m : List ℕ) (at next : ℕ) : Type 0 where
   pub bytes : List ℕ
   pub lent : take (next - at) (drop at m) ≡ bytes
@@ -131,7 +132,7 @@ free-left none n zero = let e : n ≡ n - 0 = omega arith in ap (λ (j : ℕ). r
 free-left none zero (suc k) = let e : 0 ≡ 0 - suc k = omega arith in ap (λ (j : ℕ). replicate j none) e
 free-left none (suc n) (suc k) = let e : suc n - suc k ≡ n - k = omega arith in free-left none n k ∙ ap (λ (j : ℕ). replicate j none) (sym e)
 
-pub places-put : {A : Type 0} (count : ℕ) (none : A) (xs : List A) → length xs ≤ count → sets (replicate count none) 0 xs ≡ places count none xs
+places-put : {A : Type 0} (count : ℕ) (none : A) (xs : List A) → length xs ≤ count → sets (replicate count none) 0 xs ≡ places count none xs
 unfolding places
 places-put count none xs h =
     let l = length-replicate count none in
@@ -139,7 +140,7 @@ places-put count none xs h =
     (let z : 0 + length xs ≡ length xs = omega arith in ap (λ (k : ℕ). drop k (replicate count none)) z ∙ free-left none count (length xs))
 
 module _ {A : Type 0} (tells : List ℕ → Bool) (told : List ℕ → A) (count : ℕ) (none : A) (m : List ℕ) where
-  -- what is in the records from a position on
+  -- what the records from a position on tell
   abbrev told_from : ℕ → List A
   told_from at = map told (keep tells (row_in (drop at m)))
 
@@ -188,8 +189,3 @@ module _ {A : Type 0} (tells : List ℕ → Bool) (told : List ℕ → A) (count
         let put : sets (set l n x) (n + 1) (told_from next) ≡ sets l n (told_from at) =
         ap (λ (j : ℕ). sets (set l n x) j (told_from next)) (add-one n) ∙ ap (λ (y : A). sets (set l n y) (suc n) (told_from next)) p ∙ sym (ap (λ (rs : List (List ℕ)). sets l n (map told rs)) k) in
         record { walk = walk-next m at next more s e; long = length-set l n x ∙ f.long; room = omega arith; left = put ∙ f.left }
-
-    -- a record, whatever it has
-    pub filling-next : (t : Bool) → tells s.bytes ≡ t → (k : ℕ) → k ≡ (if t then n + 1 else n) → Filling (if t then set l n (told s.bytes) else l) k next more
-    filling-next true t k z = rw z (filling-put (told s.bytes) t refl)
-    filling-next false t k z = rw z (filling_skip t)

@@ -1,33 +1,32 @@
--- The tables that are filled by place or by series, and what the first record and the last one have.
+-- The tables that are told by place or by series, and what the first record and the last one tell.
 use mathlib.Core.Path.{◌≡◌, refl, sym, ap, ap₂, ◌∙◌}
-use mathlib.Core.Bool.{Bool, true, false, ◌&&◌}
+use mathlib.Core.Bool.{Bool, true, false, not, ◌&&◌, ◌||◌, true≢false}
 use mathlib.Core.List.{List, [], ◌∷◌, ◌++◌, map, append_assoc, append-nil}
+use mathlib.Core.Logic.{◌⊎◌, inl, inr, ⊎_elim}
 use Prim.Native.Nat.{ℕ, zero, suc, ◌≤◌, ◌<◌, ◌+◌, ◌*◌, ◌-◌}
 use native.Mathlib.Decide.{ℕ_discrete}
 use native.Mathlib.Omega.{arith}
-use lib.Dec.{eqb}
-use lib.ListN.{length, get_or, set, take, drop, replicate, length-set, length-drop, length-map, length-replicate, length-append, get_or-replicate, get_or-append, take-append-drop, drop_of_length-le}
-use lib.Seq.{drop-cons, get_or-drop, get_or-set_same, get_or-set_other, ext_get_or, length-take-le}
-use borrow.Author.Tests.{eqb-true, eq-eqb, ne_eqb, leb-true}
+use native.Mathlib.Numerals.{add-one}
+use lib.Dec.{eqb, leb}
+use lib.ListN.{length, get_or, set, take, drop, replicate, length-set, length-drop, length-map, length-replicate, length-append, get_or-replicate, get_or-append}
+use lib.Seq.{drop-cons, get_or-drop, get_or-set_same, get_or-set_other, get_or-append-add, ext_get_or}
+use borrow.Author.Tests.{eqb-true, eqb-false, eq-eqb, ne_eqb, leb-true}
 use Rattle.rules.specs.declared.Legging.{Legging}
 use Rattle.rules.specs.declared.Listed.{Listed}
 use Rattle.rules.specs.declared.Generations.{Generations}
 use Rattle.rules.specs.Base.{if◌then◌else◌, held, all, keep}
-use Rattle.rules.specs.Words.{within, is_series, is_side, place_of, no_legging, no_generations}
-use Rattle.rules.specs.Bytes.{length_field, kind_field, u8_at, u32_at, u32}
+use Rattle.rules.specs.Words.{within, is_series, is_side, place_of, no_legging, not_listed, no_generations}
+use Rattle.rules.specs.Bytes.{length_field, kind_field, u8_at, u32_at}
 use Rattle.rules.specs.Generation.{one_more}
 use Rattle.rules.proofs.Tests.{and_l, and_r}
-use Rattle.sets.specs.Set.{row, held_in, count_of, part, sort_key, of_series, tells_regular, tells_complex, tells_legging, tells_generation, has_place}
-use Rattle.sets.specs.Set.{legging_told, listed_told, generation_told, generations_told, reached_told, upward}
-use Rattle.records.specs.Seen.{Seen, seen, pasted, ◌plus◌}
-use Rattle.records.proofs.SeenLaws.{plus-in}
-use Rattle.places.proofs.Tables.{free-get_d}
-use Rattle.venue_bytes.proofs.Widths.{number-width}
+use Rattle.sets.specs.Set.{Held, row, held_in, count_of, part, sort_key, of_series, tells_regular, tells_complex, tells_legging, tells_generation, has_place}
+use Rattle.sets.specs.Set.{legging_told, listed_told, generation_told, generations_told, reached_told, upward, is_set}
+use Rattle.sets.proofs.Lists.{Each}
 use Rattle.sets.proofs.Parts.{sort}
 use Rattle.sets.proofs.ReadBack.{upward-is}
 use Rattle.set_tables.specs.Told.{row_in, ReadableSet, legging_of, listed_of}
-use Rattle.set_tables.proofs.TableFilled.{Walk, walk_start, walk_end, walk-on, walk-next, Step}
-use Rattle.set_tables.proofs.Parted.{Untold, Alone, Ends, set-alone, set-ends, set_long, set-series}
+use Rattle.set_tables.proofs.TableFilled.{Walk, walk_start, walk_end, walk-on, walk-next, Step, row-in}
+use Rattle.set_tables.proofs.Parted.{Untold, Alone, set-alone, set_long, set-series}
 
 -- one row set, and the others as they were
 set_told : {A : Type 0} (l : List A) (n : ℕ) (x d : A) (f : ℕ → A) (i : ℕ) → n < length l → x ≡ f n → ((i ≡ n → ⊥) → get_or l i d ≡ f i) → get_or (set l n x) i d ≡ f i
@@ -41,44 +40,18 @@ get_d_any (x ∷ l) (suc n) d e h = get_d_any l n d e (omega arith)
 
 -- The id reached --------------------------------------------------------------------------------
 
--- what is in the records from there on; if nothing, it is as it was
-pub reached_or : ℕ → List (List ℕ) → ℕ
-reached_or d [] = d
-reached_or d (r ∷ rs) = if eqb (kind_field r) 84 then u32_at r 4 else reached_or d rs
+module _ (m : List ℕ) (at next : ℕ) (s : Step m at next) where
+  pub reached-found : kind_field s.bytes ≡ 84 → u32_at s.bytes 4 ≡ reached_told (row_in (drop at m))
+  unfolding reached_told
+  reached-found e = sym (ap reached_told s.rows ∙ rw (eq-eqb (kind_field s.bytes) 84 e))
 
-reached-none : (rs : List (List ℕ)) → reached_or 0 rs ≡ reached_told rs
-unfolding reached_or reached_told
-reached-none [] = refl
-reached-none (r ∷ rs) = ap (λ (n : ℕ). if eqb (kind_field r) 84 then u32_at r 4 else n) (reached-none rs)
+  pub reached-skip : (kind_field s.bytes ≡ 84 → ⊥) → reached_told (row_in (drop next m)) ≡ reached_told (row_in (drop at m))
+  unfolding reached_told
+  reached-skip n = sym (ap reached_told s.rows ∙ rw (ne_eqb (kind_field s.bytes) 84 n))
 
-pub record Reaching (m : List ℕ) (id at size : ℕ) : Type 0 where
-  pub walk : Walk m at size
-  pub ends : Ends (row_in (drop at m))
-  pub left : reached_or id (row_in (drop at m)) ≡ reached_told (row_in m)
-
-pub reaching-start : (m : List ℕ) (size : ℕ) → ReadableSet m → size ≡ length_field (drop 0 m) → Reaching m 0 0 size
-reaching-start m size t e = record { walk = walk_start m size t.framed e; ends = set-ends (row_in m) t.ordered; left = reached-none (row_in m) }
-
-pub reaching-next : (m : List ℕ) (id at size : ℕ) → Reaching m id at size → (next more : ℕ) (s : Step m at next) → more ≡ length_field (drop next m) →
-    Reaching m (if eqb (kind_field s.bytes) 84 then u32_at s.bytes 4 else id) next more
-unfolding reached_or
-reaching-next m id at size g next more s e = record { walk = walk-next m at next more s e; ends = both.1; left = go (eqb (kind_field s.bytes) 84) refl }
-  where
-    rest : List (List ℕ)
-    rest = row_in (drop next m)
-
-    both : (kind_field s.bytes ≡ 84 → rest ≡ []) × Ends rest
-    both = rw s.rows at g.ends
-
-    left_both : (if eqb (kind_field s.bytes) 84 then u32_at s.bytes 4 else reached_or id rest) ≡ reached_told (row_in m)
-    left_both = sym (ap (reached_or id) s.rows) ∙ g.left
-
-    go : (t : Bool) → eqb (kind_field s.bytes) 84 ≡ t → reached_or (if t then u32_at s.bytes 4 else id) rest ≡ reached_told (row_in m)
-    go true k = ap (reached_or (u32_at s.bytes 4)) (both.0 (eqb-true (kind_field s.bytes) 84 k)) ∙ (rw k at left_both)
-    go false k = rw k at left_both
-
-pub reaching-end : (m : List ℕ) (id at size : ℕ) → Reaching m id at size → size ≤ 0 → id ≡ reached_told (row_in m)
-reaching-end m id at size g h = sym (ap (reached_or id) (walk_end m at size g.walk h) ∙ (unfold reached_or in refl)) ∙ g.left
+pub reached-none : (m : List ℕ) (at size : ℕ) → Walk m at size → size ≤ 0 → 0 ≡ reached_told (row_in (drop at m))
+unfolding reached_told
+reached-none m at size w h = sym (ap reached_told (walk_end m at size w h))
 
 -- The first record ------------------------------------------------------------------------------
 
@@ -99,16 +72,26 @@ first-is m next s = ap (λ (rs : List (List ℕ)). get_or rs 0 []) s.rows
 
 -- Series ----------------------------------------------------------------------------------------
 
--- the records of the series from s on are left
-pub record Listing (m : List ℕ) (at s : ℕ) : Type 0 where
+-- the first s rows are told, and the records of the others are left
+pub record Listing (m : List ℕ) (l : List Listed) (at s : ℕ) : Type 0 where
   pub many : s ≤ 8
+  pub long : length l ≡ 8
   pub framed : held_in (drop at m) ≡ row (row_in (drop at m))
   pub rows : row_in (drop at m) ≡ drop (2 * s + 1) (row_in m)
+  pub told : (i : ℕ) → i < s → get_or l i not_listed ≡ listed_told (row_in m) i
 
-pub listing_start : (m : List ℕ) (at : ℕ) → ReadableSet m → at ≡ length_field (drop 0 m) → Listing m at 0
-listing_start m at t e = let s = first_step m at t e in record { many = omega arith; framed = s.framed; rows = sym (ap (drop 1) s.rows) }
+pub listing_start : (m : List ℕ) (l : List Listed) (at : ℕ) → ReadableSet m → at ≡ length_field (drop 0 m) → length l ≡ 8 → Listing m l at 0
+listing_start m l at t e n =
+    let s = first_step m at t e in
+    record {
+      many = omega arith;
+      long = n;
+      framed = s.framed;
+      rows = sym (ap (drop 1) s.rows);
+      told = λ i h. absurd (omega arith);
+    }
 
-module _ (m : List ℕ) (t : ReadableSet m) (at s : ℕ) (g : Listing m at s) (h : s < 8) where
+module _ (m : List ℕ) (t : ReadableSet m) (l : List Listed) (at s : ℕ) (g : Listing m l at s) (h : s < 8) where
   abbrev rs : List (List ℕ)
   rs = row_in m
 
@@ -149,27 +132,31 @@ module _ (m : List ℕ) (t : ReadableSet m) (at s : ℕ) (g : Listing m at s) (h
       away-left : row_in (drop end m) ≡ drop (2 * (s + 1) + 1) rs
       away-left = let e = pair in let z : suc (2 * s + 2) ≡ 2 * (s + 1) + 1 = omega arith in let f : row_in (drop end m) ≡ drop (suc (2 * s + 2)) rs = cc in f ∙ ap (λ (k : ℕ). drop k rs) z
 
-      pub listing-next : Listing m end (s + 1)
-      listing-next = record { many = omega arith; framed = b.framed; rows = away-left }
+      pub listing-next : (x : Listed) → x ≡ listed_of a.bytes b.bytes → Listing m (set l s x) end (s + 1)
+      listing-next x e =
+          let y : x ≡ listed_told rs s = e ∙ ap₂ listed_of status-is away-is ∙ (unfold listed_of listed_told in refl) in
+          let n = g.long in
+          record {
+            many = omega arith;
+            long = length-set l s x ∙ n;
+            framed = b.framed;
+            rows = away-left;
+            told = λ i lt. set_told l s x not_listed
+                (listed_told rs) i (omega arith) y (λ p. g.told i (below i lt p));
+          }
+        where
+          below : (i : ℕ) → i < s + 1 → (i ≡ s → ⊥) → i < s
+          below i lt p = omega arith
 
-      pub listed-is : (x : Listed) → x ≡ listed_of a.bytes b.bytes → x ≡ listed_told rs s
-      listed-is x e = e ∙ ap₂ listed_of status-is away-is ∙ (unfold listed_of listed_told in refl)
-
--- row i of a table filled place by place, and its length
-pub upward-at : {A : Type 0} (f : ℕ → A) (none : A) (n count i : ℕ) → i < count → get_or (upward f n count) i none ≡ f (n + i)
-unfolding upward
-upward-at f none n zero i h = absurd (omega arith)
-upward-at f none n (suc count) zero h = let e : n ≡ n + 0 = omega arith in ap f e
-upward-at f none n (suc count) (suc i) h = let e : suc n + i ≡ n + suc i = omega arith in upward-at f none (suc n) count i (omega arith) ∙ ap f e
-
-pub upward-long : {A : Type 0} (f : ℕ → A) (n count : ℕ) → length (upward f n count) ≡ count
-unfolding upward
-upward-long f n zero = refl
-upward-long f n (suc count) = ap suc (upward-long f (suc n) count)
+pub listing-end : (m : List ℕ) (l : List Listed) (at s : ℕ) → Listing m l at s → 8 ≤ s → l ≡ upward (listed_told (row_in m)) 0 8
+listing-end m l at s g h =
+    let n = g.long in
+    sym (ap (upward (listed_told (row_in m)) 0) (sym n) ∙ upward-is (listed_told (row_in m)) not_listed 0 l
+    (λ i lt. let z : 0 + i ≡ i = omega arith in ap (listed_told (row_in m)) z ∙ sym (g.told i (omega arith))))
 
 -- Legging orders --------------------------------------------------------------------------------
 
--- what the records from there on say of a place; if nothing, it is as it was
+-- what the records from there on tell of a place; if nothing, it is as it was
 pub told_or : Legging → List (List ℕ) → (n : ℕ) → Legging
 told_or d [] n = d
 told_or d (r ∷ rs) n = if tells_legging r && eqb (sort_key r) n then legging_of r else told_or d rs n
@@ -275,11 +262,6 @@ module _ (m : List ℕ) (l : List Legging) (at size : ℕ) (g : Legged m l at si
           ];
         }
 
-  -- a record, whatever it has
-  pub legged-next : (t : Bool) → tells_legging r ≡ t → Legged m (if t then set l (place_of (u8_at r 8) (u8_at r 9)) (legging_of r) else l) next more
-  legged-next true t = legged-put t (place_of (u8_at r 8) (u8_at r 9)) (legging_of r) refl refl
-  legged-next false t = legged-skip t
-
 pub legged-end : (m : List ℕ) (l : List Legging) (at size : ℕ) → Legged m l at size → size ≤ 0 → l ≡ upward (legging_told (row_in m)) 0 16
 legged-end m l at size g h =
     let n = g.long in
@@ -304,7 +286,7 @@ pushed-all (suc k) ys (x ∷ xs) h =
     ap (λ (l : List ℕ). pushed l xs) (append_assoc (replicate k 0) ys (x ∷ [])) ∙ pushed-all k (ys ++ (x ∷ [])) xs (omega arith)
     ∙ ap₂ (λ (j : ℕ) (l : List ℕ). replicate j 0 ++ l) (sym z) (append_assoc ys (x ∷ []) xs)
 
--- the numbers in the records of a series
+-- the numbers that records tell of a series
 abbrev numbers : (series : ℕ) → List (List ℕ) → List ℕ
 numbers s rs = map generation_told (keep (of_series s) rs)
 
@@ -322,15 +304,9 @@ gen-placed r e h =
     let a = leb-true (u8_at r 4) 7 (search (and_l, and_r, z) depth 6) in
     omega arith
 
--- so many numbers as before
-more-long : (number : ℕ) (old : List ℕ) → length old ≡ 20 → length (one_more number old) ≡ 20
-unfolding one_more
-more-long number old e = length-append (drop 1 old) (number ∷ []) ∙ (let d = length-drop 1 old in omega arith)
-
 pub record Numbered (m : List ℕ) (l : List Generations) (at size : ℕ) : Type 0 where
   pub walk : Walk m at size
   pub long : length l ≡ 8
-  pub twenty : (s : ℕ) → length (get_or l s no_generations).messages ≡ 20
   pub placed : all has_place (row_in (drop at m)) ≡ true
   pub left : (s : ℕ) → s < 8 → pushed (get_or l s no_generations).messages (numbers s (row_in (drop at m))) ≡ (generations_told (row_in m) s).messages
 
@@ -339,7 +315,6 @@ numbered-start m size t e =
     record {
       walk = walk_start m size t.framed e;
       long = length-replicate 8 no_generations;
-      twenty = λ s. ap (λ (g : Generations). length g.messages) (free-get_d no_generations 8 s);
       placed = t.placed;
       left = λ s h. ap (λ (g : Generations). pushed g.messages (numbers s (row_in m))) (get_or-replicate 8 s no_generations no_generations h)
           ∙ pushed_none (row_in m) s (set-series (row_in m) t.ordered s);
@@ -370,7 +345,6 @@ module _ (m : List ℕ) (l : List Generations) (at size : ℕ) (g : Numbered m l
       record {
         walk = walk-next m at next more p e;
         long = g.long;
-        twenty = g.twenty;
         placed = and_r (has_place q) (all has_place others) has_both;
         left = λ s h. let z : of_series s q ≡ false = unfold of_series in (rw t) in rw z at (numbers-both s h);
       }
@@ -379,45 +353,28 @@ module _ (m : List ℕ) (l : List Generations) (at size : ℕ) (g : Numbered m l
     pub numbered-room : (n : ℕ) → n ≡ u8_at q 4 → n < 8
     numbered-room n z = let a = gen-placed q t (and_l (has_place q) (all has_place others) has_both) in omega arith
 
-    -- one number more of its series
-    abbrev pushed_one : Generations
-    pushed_one = record { messages = one_more (generation_told q) (get_or l (u8_at q 4) no_generations).messages }
-
-    numbered-put : Numbered m (set l (u8_at q 4) pushed_one) next more
-    numbered-put =
-        let o = numbered-room (u8_at q 4) refl in
+    pub numbered-put : (n number : ℕ) (d x : Generations) → n ≡ u8_at q 4 → number ≡ generation_told q → x.messages ≡ one_more number (get_or l n d).messages → Numbered m (set l n x) next more
+    numbered-put n number d x z w made =
+        let o = numbered-room n z in
         let k = g.long in
+        let y : x.messages ≡ one_more (generation_told q) (get_or l n no_generations).messages =
+        made ∙ ap₂ (λ (i : ℕ) (j : Generations). one_more i j.messages) w (get_d_any l n d no_generations (omega arith)) in
         record {
           walk = walk-next m at next more p e;
-          long = length-set l (u8_at q 4) pushed_one ∙ k;
-          twenty = λ s. elim (ℕ_discrete s (u8_at q 4)) [
-            | yes w ↦ ap (λ (i : Generations). length i.messages) (here s w) ∙ more-long (generation_told q) (get_or l (u8_at q 4) no_generations).messages (g.twenty (u8_at q 4))
-            | no w ↦ ap (λ (i : Generations). length i.messages) (get_or-set_other l (u8_at q 4) s pushed_one no_generations w) ∙ g.twenty s
-          ];
+          long = length-set l n x ∙ k;
           placed = and_r (has_place q) (all has_place others) has_both;
-          left = λ s h. elim (ℕ_discrete s (u8_at q 4)) [
+          left = λ s h. elim (ℕ_discrete s n) [
             | yes w ↦
-                let v : of_series s q ≡ true = unfold of_series in (rw (t, eq-eqb (u8_at q 4) s (sym w))) in
-                ap (λ (i : Generations). pushed i.messages (numbers s others)) (here s w)
-                ∙ ap (λ (j : ℕ). pushed (one_more (generation_told q) (get_or l j no_generations).messages) (numbers s others)) (sym w)
+                let v : of_series s q ≡ true = unfold of_series in (rw (t, eq-eqb (u8_at q 4) s (sym z ∙ sym w))) in
+                let u : get_or (set l n x) s no_generations ≡ x = ap (λ (j : ℕ). get_or (set l n x) j no_generations) w ∙ get_or-set_same l n x no_generations (omega arith) in
+                ap (λ (i : Generations). pushed i.messages (numbers s others)) u
+                ∙ ap (λ (i : List ℕ). pushed i (numbers s others)) (y ∙ ap (λ (j : ℕ). one_more (generation_told q) (get_or l j no_generations).messages) (sym w))
                 ∙ numbers-one s h v
             | no w ↦
-                let v : of_series s q ≡ false = unfold of_series in (rw (t, ne_eqb (u8_at q 4) s (λ j. w (sym j)))) in
-                ap (λ (i : Generations). pushed i.messages (numbers s others)) (get_or-set_other l (u8_at q 4) s pushed_one no_generations w) ∙ (rw v at (numbers-both s h))
+                let v : of_series s q ≡ false = unfold of_series in (rw (t, ne_eqb (u8_at q 4) s (λ j. w (sym j ∙ sym z)))) in
+                ap (λ (i : Generations). pushed i.messages (numbers s others)) (get_or-set_other l n s x no_generations w) ∙ (rw v at (numbers-both s h))
           ];
         }
-      where
-        here : (s : ℕ) → s ≡ u8_at q 4 → get_or (set l (u8_at q 4) pushed_one) s no_generations ≡ pushed_one
-        here s w =
-            let o = numbered-room (u8_at q 4) refl in
-            let k = g.long in
-            ap (λ (j : ℕ). get_or (set l (u8_at q 4) pushed_one) j no_generations) w ∙ get_or-set_same l (u8_at q 4) pushed_one no_generations (omega arith)
-
-  -- a record, whatever it has
-  pub numbered_next : (t : Bool) → tells_generation q ≡ t →
-      Numbered m (if t then set l (u8_at q 4) (record { messages = one_more (generation_told q) (get_or l (u8_at q 4) no_generations).messages }) else l) next more
-  numbered_next true t = numbered-put t
-  numbered_next false t = numbered-skip t
 
 pub numbered-end : (m : List ℕ) (l : List Generations) (at size : ℕ) → Numbered m l at size → size ≤ 0 → l ≡ upward (generations_told (row_in m)) 0 8
 numbered-end m l at size g h =
@@ -429,45 +386,42 @@ numbered-end m l at size g h =
     sym (ap (λ (rs : List (List ℕ)). pushed (get_or l i no_generations).messages (numbers i rs)) e ∙ (unfold pushed keep in refl)) ∙ g.left i (omega arith) in
     ap (generations_told (row_in m)) z ∙ ap (λ (x : List ℕ). record { messages = x }) (sym y)))
 
--- One number more in a row of bytes -----------------------------------------------------------
+-- One number more -------------------------------------------------------------------------------
 
--- the first k bytes stand where those four further on stood
-pub record Shifted (old bs : List ℕ) (k : ℕ) : Type 0 where
-  pub many : k ≤ 76
-  pub long : length bs ≡ 80
-  pub moved : (i : ℕ) → i < k → get_or bs i 0 ≡ get_or old (i + 4) 0
-  pub others : (i : ℕ) → k ≤ i → get_or bs i 0 ≡ get_or old i 0
+-- the first k numbers stand where the next ones stood
+pub record Shifted (old messages : List ℕ) (k : ℕ) : Type 0 where
+  pub many : k ≤ 19
+  pub long : length messages ≡ 20
+  pub moved : (i : ℕ) → i < k → get_or messages i 0 ≡ get_or old (i + 1) 0
 
-pub shifted_start : (old : List ℕ) → length old ≡ 80 → Shifted old old 0
-shifted_start old n = record { many = omega arith; long = n; moved = λ i h. absurd (omega arith); others = λ i h. refl }
-
-pub shifted_next : (old bs : List ℕ) (k : ℕ) → Shifted old bs k → k < 76 → Shifted old (set bs k (get_or bs (k + 4) 0)) (k + 1)
-shifted_next old bs k f h =
+pub shifted_next : (old messages : List ℕ) (k : ℕ) → Shifted old messages k → k < 19 → Shifted old (set messages k (get_or old (k + 1) 0)) (k + 1)
+shifted_next old messages k f h =
     let n = f.long in
     record {
       many = omega arith;
-      long = length-set bs k (get_or bs (k + 4) 0) ∙ n;
-      moved = λ i lt. set_told bs k (get_or bs (k + 4) 0) 0 (λ j. get_or old (j + 4) 0) i (omega arith) (f.others (k + 4) (omega arith)) (λ p. f.moved i (below i lt p));
-      others = λ i lt. get_or-set_other bs k i (get_or bs (k + 4) 0) 0 (λ p. omega arith) ∙ f.others i (omega arith);
+      long = length-set messages k (get_or old (k + 1) 0) ∙ n;
+      moved = λ i lt. set_told messages k (get_or old (k + 1) 0) 0 (λ j. get_or old (j + 1) 0) i (omega arith) refl (λ p. f.moved i (below i lt p));
     }
   where
     below : (i : ℕ) → i < k + 1 → (i ≡ k → ⊥) → i < k
     below i lt p = omega arith
 
--- all of them, and a number behind them
-pub shifted_end : (old bs o : List ℕ) (k number end : ℕ) → length old ≡ 80 → Shifted old bs k → 76 ≤ k → seen o end ≡ seen bs 76 plus u32 number → o ≡ drop 4 old ++ u32 number
-unfolding pasted seen
-shifted_end old bs o k number end n f h e =
+pub shifted_end : (old messages : List ℕ) (k number : ℕ) → length old ≡ 20 → Shifted old messages k → 19 ≤ k → set messages 19 number ≡ one_more number old
+unfolding one_more
+shifted_end old messages k number n f h =
     let a = f.long in
     let b = f.many in
-    let w = number-width number in
-    let t : length (take 76 bs) ≡ 76 = length-take-le 76 bs (omega arith) in
-    let d = length-drop 4 old in
-    let front : take 76 bs ≡ drop 4 old =
-    ext_get_or 0 (take 76 bs) (drop 4 old) (omega arith)
-    (λ i lt. let z : i + 4 ≡ 4 + i = omega arith in
-    sym (get_or-append (take 76 bs) (drop 76 bs) 0 i (omega arith)) ∙ ap (λ (l : List ℕ). get_or l i 0) (take-append-drop 76 bs)
-    ∙ f.moved i (omega arith) ∙ ap (λ (j : ℕ). get_or old j 0) z ∙ sym (get_or-drop 4 old i 0)) in
-    ap (λ (x : Seen). x.memory) (e ∙ plus-in bs (u32 number) 76 (omega arith))
-    ∙ ap₂ (λ (x y : List ℕ). x ++ u32 number ++ y) front (drop_of_length-le bs {i = 76 + length (u32 number)} (omega arith))
-    ∙ append-nil (drop 4 old ++ u32 number)
+    let c = length-set messages 19 number in
+    let d = length-append (drop 1 old) (number ∷ []) in
+    let g = length-drop 1 old in
+    ext_get_or 0 (set messages 19 number) (drop 1 old ++ (number ∷ [])) (omega arith)
+    (λ i lt. elim (ℕ_discrete i 19) [
+      | yes p ↦
+          let z : i ≡ length (drop 1 old) + 0 = omega arith in
+          ap (λ (j : ℕ). get_or (set messages 19 number) j 0) p ∙ get_or-set_same messages 19 number 0 (omega arith)
+          ∙ sym (ap (λ (j : ℕ). get_or (drop 1 old ++ (number ∷ [])) j 0) z ∙ get_or-append-add (drop 1 old) (number ∷ []) 0 0)
+      | no p ↦
+          let z : 1 + i ≡ i + 1 = omega arith in
+          get_or-set_other messages 19 i number 0 p ∙ f.moved i (omega arith)
+          ∙ sym (get_or-append (drop 1 old) (number ∷ []) 0 i (omega arith) ∙ get_or-drop 1 old i 0 ∙ ap (λ (j : ℕ). get_or old j 0) z)
+    ])

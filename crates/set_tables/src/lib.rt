@@ -1,19 +1,16 @@
-// Writes the bytes of a venue from the records of a set that set_check has accepted.
-ghost use Rattle.std.specs.Prelude.{◌≡◌, [], ◌++◌, ◌≤◌, ◌<◌, length, get_or, drop};
-ghost use Rattle.rules.specs.Words.{place_of};
-ghost use Rattle.rules.specs.Bytes.{u8_at, u32_at, u32, length_field};
-ghost use Rattle.sets.specs.Set.{complex_told, generation_told};
+// Each table of a venue, filled from the records of a set that was looked at.
+ghost use Rattle.std.specs.Prelude.{◌≡◌, [], ◌≤◌, length, get_or, drop};
+ghost use Rattle.rules.specs.Bytes.{u32_at, length_field};
+ghost use Rattle.sets.specs.Set.{complex_told};
 ghost use Rattle.sets.specs.Set.{regular_told, edition_told, venue_told};
-ghost use Rattle.records.specs.Seen.{pasted};
-ghost use Rattle.venue_bytes.specs.Held.{venue_size, listed_bytes, rows, venue_bytes, venue_from};
-ghost use Rattle.set_tables.specs.Told.{row_in, ReadableSet, legging_of, listed_of, tables_told, Holds};
-ghost use Rattle.set_tables.specs.Told.{TellingReady, RecordReady, put_of, order_put, complex_put, edition_put, legging_put, generation_put, reached_put, record_put};
+ghost use Rattle.rules.specs.Generation.{one_more};
+ghost use Rattle.set_tables.specs.Told.{row_in, ReadableSet, legging_of, listed_of};
 
-use rules::{Complex, Edition, Legging, Listed, Regular};
+use rules::{Complex, Edition, Generations, Legging, Listed, Regular, Venue};
 
-// What a record has ---------------------------------------------------------------------------
+// What a record tells -------------------------------------------------------------------------
 
-// What the order in a record shows: all of it where the record is of kind 1.
+// What shows of an order: all of it where it is of kind 1.
 fn display_told(r: &[u8]) -> u32
     ensures { result ≡ (regular_told r.now).display }
 {
@@ -23,7 +20,7 @@ fn display_told(r: &[u8]) -> u32
     wire::u32_at(r, 14)
 }
 
-// The regular order in a record.
+// The regular order that a record tells.
 fn regular_told(r: &[u8]) -> Regular
     requires { 18 ≤ length r.now }
     ensures { result ≡ regular_told r.now }
@@ -31,7 +28,7 @@ fn regular_told(r: &[u8]) -> Regular
     wire::order_at(r, display_told(r))
 }
 
-// The complex order in a record.
+// The complex order that a record tells.
 fn complex_told(r: &[u8]) -> Complex
     requires { 21 ≤ length r.now }
     ensures { result ≡ complex_told r.now }
@@ -42,7 +39,7 @@ fn complex_told(r: &[u8]) -> Complex
     wire::two_leg_at(r, 1, 1)
 }
 
-// The edition in a record.
+// The edition that a record tells.
 fn edition_told(r: &[u8]) -> Edition
     ensures { result ≡ edition_told r.now }
 {
@@ -62,7 +59,7 @@ fn edition_told(r: &[u8]) -> Edition
     }
 }
 
-// The legging order in a record.
+// The legging order that a record tells.
 fn legging_told(r: &[u8]) -> Legging
     ensures { result ≡ legging_of r.now }
 {
@@ -73,7 +70,7 @@ fn legging_told(r: &[u8]) -> Legging
     }
 }
 
-// A series' status and away prices, from the two records that have them.
+// A series' status and away prices, of the two records that tell them.
 fn listed_told(status: &[u8], away: &[u8]) -> Listed
     ensures { result ≡ listed_of status.now away.now }
 {
@@ -84,135 +81,7 @@ fn listed_told(status: &[u8], away: &[u8]) -> Listed
     }
 }
 
-// A record's rows ------------------------------------------------------------------------------
-
-// How many regular orders, complex orders and editions are written.
-#[derive(Drop)]
-pub struct Filled {
-    regulars: usize,
-    complexes: usize,
-    editions: usize,
-}
-
-// Writes the two rows of the regular order in a record, at the first free place.
-fn put_order(venue: &mut [u8], done: Filled, r: &[u8]) -> Filled
-    requires { (18 ≤ length r.now) × (done.regulars < 128) }
-    ensures { put_of venue.new result ≡ order_put venue.old done r.now }
-{
-    let n = done.regulars;
-    let o = regular_told(r);
-    venue_writer::put_regular(venue, 14 * n, o);
-    venue_writer::put_reserve(venue, 8 * n + venue_bytes::RESERVES_AT, o);
-    Filled {
-        regulars: n + 1,
-        complexes: done.complexes,
-        editions: done.editions,
-    }
-}
-
-// Writes the two rows of the complex order in a record, at the first free place.
-fn put_complex(venue: &mut [u8], done: Filled, r: &[u8]) -> Filled
-    requires { (21 ≤ length r.now) × (done.complexes < 32) }
-    ensures { put_of venue.new result ≡ complex_put venue.old done r.now }
-{
-    let n = done.complexes;
-    let c = complex_told(r);
-    venue_writer::put_complex(venue, 17 * n + 1792, c);
-    venue_writer::put_ratio(venue, 2 * n + venue_bytes::RATIOS_AT, c);
-    Filled {
-        regulars: done.regulars,
-        complexes: n + 1,
-        editions: done.editions,
-    }
-}
-
-// Writes the row of the edition in a record, at the first free place.
-fn put_edition(venue: &mut [u8], done: Filled, r: &[u8]) -> Filled
-    requires { done.editions < 32 }
-    ensures { put_of venue.new result ≡ edition_put venue.old done r.now }
-{
-    let n = done.editions;
-    let e = edition_told(r);
-    venue_writer::put_edition(venue, 10 * n + venue_bytes::EDITIONS_AT, e);
-    Filled {
-        regulars: done.regulars,
-        complexes: done.complexes,
-        editions: n + 1,
-    }
-}
-
-// Writes the row of the legging order in a record, at its place.
-fn put_legging(venue: &mut [u8], r: &[u8])
-    ensures { venue.new ≡ legging_put venue.old r.now }
-{
-    let n = set_check::place_of(r) as usize;
-    let l = legging_told(r);
-    venue_writer::put_legging(venue, 12 * n + 2336, l);
-}
-
-// Adds a number to the row of a series' generations; the oldest number goes.
-fn push(row: &mut [u8], number: u32)
-    requires { length row.old ≡ 80 }
-    ensures { row.new ≡ drop 4 row.old ++ u32 number }
-{
-    let mut k: usize = 0;
-    while k < 76 {
-        row[k] = row[k + 4];
-        k += 1;
-    }
-    let last = records::bytes4(number);
-    records::put(row, 76, &last);
-}
-
-// Adds the generation in a record to the row of its series.
-fn put_generation(venue: &mut [u8], r: &[u8])
-    requires { (length venue.old ≡ venue_size) × (u8_at r.now 4 < 8) }
-    ensures { venue.new ≡ generation_put venue.old (u8_at r.now 4) (generation_told r.now) }
-{
-    let series = wire::u8_at(r, 4) as usize;
-    let number = set_check::told_of(r);
-    let from = 80 * series + venue_bytes::GENERATIONS_AT;
-    let to = from + 80;
-    push(&mut venue[from..to], number);
-}
-
-// Writes the id reached in a record.
-fn put_reached(venue: &mut [u8], r: &[u8])
-    ensures { venue.new ≡ reached_put venue.old r.now }
-{
-    let id = records::bytes4(wire::u32_at(r, 4));
-    records::put(venue, venue_bytes::REACHED_AT, &id);
-}
-
-// Writes what a record has. The first 17 records of a set write nothing here.
-fn put_record(venue: &mut [u8], done: Filled, r: &[u8]) -> Filled
-    requires { RecordReady venue.old done r.now }
-    ensures { put_of venue.new result ≡ record_put venue.old done r.now }
-{
-    if set_check::tells_regular(r) {
-        return put_order(venue, done, r);
-    }
-    if set_check::tells_complex(r) {
-        return put_complex(venue, done, r);
-    }
-    if set_check::tells_edition(r) {
-        return put_edition(venue, done, r);
-    }
-    if set_check::tells_legging(r) {
-        put_legging(venue, r);
-        return done;
-    }
-    if set_check::tells_generation(r) {
-        put_generation(venue, r);
-        return done;
-    }
-    if set_check::kind_of(r) == 84 {
-        put_reached(venue, r);
-    }
-    done
-}
-
-// The venue of a set ---------------------------------------------------------------------------
+// The venue of a set, table by table ----------------------------------------------------------
 
 // The length of the record at a position; 0 at the end of the set.
 fn size_at(memory: &[u8], at: usize) -> usize
@@ -221,45 +90,179 @@ fn size_at(memory: &[u8], at: usize) -> usize
     wire::u16_at(memory, at) as usize
 }
 
-// Writes the orders, legging orders, editions, generations and the id reached of a set, and zeros for all else.
-fn put_records(memory: &[u8], venue: &mut [u8])
-    requires { TellingReady memory.now venue.old }
-    ensures { venue.new ≡ venue_bytes (tables_told (row_in memory.now)) }
+// The regular orders that a set tells, place by place.
+fn regulars_told(memory: &[u8]) -> [Regular; 128]
+    requires { ReadableSet memory.now }
+    ensures { result ≡ (venue_told (row_in memory.now)).regular }
 {
-    records::zero_from(venue, 0);
-    let mut done = Filled {
-        regulars: 0,
-        complexes: 0,
-        editions: 0,
-    };
+    let free = rules::NO_REGULAR;
+    let mut l = [free; 128];
+    let mut n: usize = 0;
     let mut at: usize = 0;
     let mut size = size_at(memory, 0);
     while 0 < size {
         let from = at;
         at = from + size;
         size = size_at(memory, at);
-        done = put_record(venue, done, &memory[from..at]);
+        if !set_check::tells_regular(&memory[from..at]) {
+            continue;
+        }
+        let o = regular_told(&memory[from..at]);
+        l[n] = o;
+        n += 1;
     }
+    l
 }
 
-// Writes the status and away prices of every series of a set.
-fn put_series(memory: &[u8], venue: &mut [u8])
-    requires { TellingReady memory.now venue.old }
-    ensures { venue.new ≡ pasted venue.old 2528 (rows listed_bytes (venue_told (row_in memory.now)).series) }
+// The complex orders that a set tells, place by place.
+fn complexes_told(memory: &[u8]) -> [Complex; 32]
+    requires { ReadableSet memory.now }
+    ensures { result ≡ (venue_told (row_in memory.now)).complex }
 {
+    let free = rules::NO_COMPLEX;
+    let mut l = [free; 32];
+    let mut n: usize = 0;
+    let mut at: usize = 0;
+    let mut size = size_at(memory, 0);
+    while 0 < size {
+        let from = at;
+        at = from + size;
+        size = size_at(memory, at);
+        if !set_check::tells_complex(&memory[from..at]) {
+            continue;
+        }
+        let c = complex_told(&memory[from..at]);
+        l[n] = c;
+        n += 1;
+    }
+    l
+}
+
+// The editions that a set tells, place by place.
+fn editions_told(memory: &[u8]) -> [Edition; 32]
+    requires { ReadableSet memory.now }
+    ensures { result ≡ (venue_told (row_in memory.now)).editions }
+{
+    let free = rules::NO_EDITION;
+    let mut l = [free; 32];
+    let mut n: usize = 0;
+    let mut at: usize = 0;
+    let mut size = size_at(memory, 0);
+    while 0 < size {
+        let from = at;
+        at = from + size;
+        size = size_at(memory, at);
+        if !set_check::tells_edition(&memory[from..at]) {
+            continue;
+        }
+        let e = edition_told(&memory[from..at]);
+        l[n] = e;
+        n += 1;
+    }
+    l
+}
+
+// The legging orders that a set tells, each at its place.
+fn leggings_told(memory: &[u8]) -> [Legging; 16]
+    requires { ReadableSet memory.now }
+    ensures { result ≡ (venue_told (row_in memory.now)).legging }
+{
+    let free = rules::NO_LEGGING;
+    let mut l = [free; 16];
+    let mut at: usize = 0;
+    let mut size = size_at(memory, 0);
+    while 0 < size {
+        let from = at;
+        at = from + size;
+        size = size_at(memory, at);
+        if !set_check::tells_legging(&memory[from..at]) {
+            continue;
+        }
+        let n = set_check::place_of(&memory[from..at]) as usize;
+        let x = legging_told(&memory[from..at]);
+        l[n] = x;
+    }
+    l
+}
+
+// The status and away prices of every series that a set tells.
+fn series_told(memory: &[u8]) -> [Listed; 8]
+    requires { ReadableSet memory.now }
+    ensures { result ≡ (venue_told (row_in memory.now)).series }
+{
+    let none = rules::NOT_LISTED;
+    let mut l = [none; 8];
     let mut at = size_at(memory, 0);
     let mut s: usize = 0;
     while s < 8 {
         let away = at + size_at(memory, at);
         let next = away + size_at(memory, away);
         let x = listed_told(&memory[at..away], &memory[away..next]);
-        venue_writer::put_listed(venue, 9 * s + 2528, x);
+        l[s] = x;
         at = next;
         s += 1;
     }
+    l
 }
 
-// A number in the first record.
+// One generation more of a series; the oldest number goes.
+fn one_more(g: Generations, number: u32) -> Generations
+    ensures { result.messages ≡ one_more number g.messages }
+{
+    let old = g.messages;
+    let mut messages = [0u32; 20];
+    let mut k: usize = 0;
+    while k < 19 {
+        messages[k] = old[k + 1];
+        k += 1;
+    }
+    messages[19] = number;
+    Generations { messages }
+}
+
+// The generations of every series that a set tells.
+fn generations_told(memory: &[u8]) -> [Generations; 8]
+    requires { ReadableSet memory.now }
+    ensures { result ≡ (venue_told (row_in memory.now)).generations }
+{
+    let none = rules::NO_GENERATIONS;
+    let mut l = [none; 8];
+    let mut at: usize = 0;
+    let mut size = size_at(memory, 0);
+    while 0 < size {
+        let from = at;
+        at = from + size;
+        size = size_at(memory, at);
+        if !set_check::tells_generation(&memory[from..at]) {
+            continue;
+        }
+        let s = wire::u8_at(&memory[from..at], 4) as usize;
+        let g = l[s];
+        let h = one_more(g, set_check::told_of(&memory[from..at]));
+        l[s] = h;
+    }
+    l
+}
+
+// The id reached by limited sweeps; 0 if no record tells one.
+fn reached_told(memory: &[u8]) -> u32
+    requires { ReadableSet memory.now }
+    ensures { result ≡ (venue_told (row_in memory.now)).reached }
+{
+    let mut at: usize = 0;
+    let mut size = size_at(memory, 0);
+    while 0 < size {
+        let from = at;
+        at = from + size;
+        size = size_at(memory, at);
+        if set_check::kind_of(&memory[from..at]) == 84 {
+            return wire::u32_at(&memory[from..at], 4);
+        }
+    }
+    0
+}
+
+// A number that the first record tells.
 pub fn first_told(memory: &[u8], at: usize) -> u32
     requires { ReadableSet memory.now }
     ensures { result ≡ u32_at (get_or (row_in memory.now) 0 []) at }
@@ -268,13 +271,27 @@ pub fn first_told(memory: &[u8], at: usize) -> u32
     wire::u32_at(&memory[0..end], at)
 }
 
-// Writes the bytes of the venue of a set's records. Reading the bytes gives that venue back.
-pub fn put_told(memory: &[u8], venue: &mut [u8])
-    requires { TellingReady memory.now venue.old }
-    ensures { Holds venue.new (venue_told (row_in memory.now)) }
+// The venue that the records of a set tell.
+pub fn venue_told(memory: &[u8]) -> Venue
+    requires { ReadableSet memory.now }
+    ensures { result ≡ venue_told (row_in memory.now) }
 {
-    put_records(memory, venue);
-    put_series(memory, venue);
-    let last = records::bytes4(first_told(memory, 8));
-    records::put(venue, 2600, &last);
+    let regular = regulars_told(memory);
+    let complex = complexes_told(memory);
+    let legging = leggings_told(memory);
+    let series = series_told(memory);
+    let editions = editions_told(memory);
+    let generations = generations_told(memory);
+    let last = first_told(memory, 8);
+    let reached = reached_told(memory);
+    Venue {
+        regular,
+        complex,
+        legging,
+        series,
+        editions,
+        generations,
+        last,
+        reached,
+    }
 }

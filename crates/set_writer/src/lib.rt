@@ -1,11 +1,12 @@
-// Writes the venue that bytes stand for, with its message number, as a set of records into the caller's memory.
+// A venue and its message number, written as a set of records into lent memory.
 ghost use Rattle.std.specs.Prelude.{◌≡◌, length};
 ghost use Rattle.places.specs.Layout.{venue_of};
 ghost use Rattle.sets.specs.Set.{set_of, joined, not_written, write_set};
 ghost use Rattle.set_parts.specs.SetMemory.{set_memory, ◌adds◌};
 ghost use Rattle.set_writer.specs.Saving.{saved_of};
 ghost use Rattle.places.specs.Requirements.{DenseNumbers};
-ghost use Rattle.venue_bytes.specs.Held.{venue_size, venue_from};
+
+use rules::Venue;
 
 // What a writing call returns: its number, and how many bytes the set has.
 #[derive(Drop)]
@@ -16,7 +17,7 @@ pub struct Saved {
 
 // The set ---------------------------------------------------------------------------------------
 
-// Writes the set of the venue in the slice from the front of the memory on. Returns a position past the end where the set does not fit.
+// The set of the venue in the slice, from the front of the memory on; a position past the end where it does not fit.
 fn put_set(numbers: &[u32], number: u32, out: &mut [u8]) -> usize
     requires { DenseNumbers numbers.now }
     ensures { set_memory out.new result ≡ set_memory out.old 0 adds joined (set_of number (venue_of numbers.now)) }
@@ -30,7 +31,7 @@ fn put_set(numbers: &[u32], number: u32, out: &mut [u8]) -> usize
     set_parts::put_reached(out, generations, places::reached_id(numbers))
 }
 
-// A refused call: writes zeros to the whole memory, and returns 0 bytes.
+// A call that is refused: the memory all zero, and 0 bytes.
 fn refuse(number: u8, memory: &mut [u8]) -> Saved
     ensures { saved_of result memory.new ≡ not_written number (length memory.old) }
 {
@@ -38,13 +39,12 @@ fn refuse(number: u8, memory: &mut [u8]) -> Saved
     Saved { number, written: 0 }
 }
 
-// Writes the venue that the bytes stand for and the number of its last message as a set from the front of the memory on, and zeros after it.
-pub fn write_set(venue: &[u8], number: u32, memory: &mut [u8]) -> Saved
-    requires { length venue.now ≡ venue_size }
-    ensures { saved_of result memory.new ≡ write_set number (venue_from venue.now) (length memory.old) }
+// A venue and the number of its last message, written as a set from the front of the memory on. Zeros follow it.
+pub fn write_set(venue: Venue, number: u32, memory: &mut [u8]) -> Saved
+    ensures { saved_of result memory.new ≡ write_set number venue (length memory.old) }
 {
     let mut numbers = [0u32; places::SIZE];
-    if !soundness::load_bytes_ready(&mut numbers, venue, number) {
+    if !soundness::load_ready(&mut numbers, venue, number) {
         return refuse(9, memory);
     }
     let written = put_set(&numbers, number, memory);

@@ -1,4 +1,4 @@
--- The set of the venue that was read from a set has that set's parts.
+-- The parts of the set of the venue that a set tells are that set's parts.
 use mathlib.Core.Path.{◌≡◌, refl, sym, ap, ◌∙◌}
 use mathlib.Core.Bool.{Bool, true, false}
 use mathlib.Core.List.{List, [], ◌∷◌, ◌++◌, append-nil, map}
@@ -62,7 +62,7 @@ unfolding by_id
 complex-first fuel [] c cs h le = ap (λ (l : List (List ℕ)). complex_record c ∷ l) (sym (complex-left fuel cs (omega arith)))
 complex-first fuel (o ∷ os) c cs h le = rw (le-ltb o.id c.id (let z = h.0 in omega arith))
 
--- the regular orders and the complex ones in a row
+-- the regular orders and the complex ones that a row tells
 abbrev pub regulars_of : List (List ℕ) → List Regular
 regulars_of l = map regular_told (keep tells_regular l)
 

@@ -35,7 +35,7 @@ use Rattle.sets.proofs.Merging.{Apart}
 use Rattle.sets.proofs.Slots.{Placed, all_placed}
 use Rattle.sets.proofs.Numbers.{Counted}
 
--- a list of held places, whose records are of part k, marked by a number that rises from above 0 on, and read back
+-- a list of held places, whose records are of part k, marked by a number that rises from above 0 on, and told back
 pub record Held {A : Type 0} (k : ℕ) (mark : A → ℕ) (make : A → List ℕ) (told : List ℕ → A) (l : List A) : Type 0 where
   pub rises : Rising mark 1 l
   pub fine : Each (λ x. Fine k (mark x) (make x)) l

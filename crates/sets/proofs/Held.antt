@@ -1,4 +1,4 @@
--- The held places of an arranged book: they rise, each meets its conditions, and with free places after them they are the book.
+-- The held places of an arranged book: they rise, each is as asked, and with free places after them they are the book.
 use mathlib.Core.Path.{◌≡◌, refl}
 use mathlib.Core.Bool.{Bool, true, false, ◌&&◌}
 use mathlib.Core.List.{List, [], ◌∷◌}

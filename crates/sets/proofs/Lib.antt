@@ -3,7 +3,7 @@
 --   Lists       laws of lists of records, and of rows that rise
 --   Counts      few enough of each part, both ways
 --   Rows        a row of records in a memory, both ways
---   Records     each record of a set, its kind and length, and what it has
+--   Records     each record of a set, its kind and length, and what it tells
 --   Held        the held places of an arranged book
 --   Parts       the part of a set that a record is of
 --   PartsKept   what is kept of a row of parts
@@ -19,7 +19,7 @@
 --   Spelled     the bytes of a record from what is read at its places
 --   Pieces      a row in order is its pieces one after another
 --   PartsRead   each record that is read, by its part
---   Again       the parts of the set of the venue that was read from a set
+--   Again       the parts of the set of the venue that a set tells
 --   WriteBack   writing what was read
 --   ReadSound   what is read is sound
 pub mod Lists

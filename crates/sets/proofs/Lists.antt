@@ -78,7 +78,7 @@ module _ {A : Type 0} (f : A → Bool) where
   all-each [] h = refl
   all-each (x ∷ l) h = and_in (f x) (all f l) h.0 (all-each l h.1)
 
--- each of a list is read as it was made
+-- each of a list is told as it was made
 pub map_back : {A B : Type 0} (f : A → B) (g : B → A) (l : List A) → Each (λ x. g (f x) ≡ x) l → map g (map f l) ≡ l
 map_back f g [] h = refl
 map_back f g (x ∷ l) h = rw h.0 (ap (λ m. x ∷ m) (map_back f g l h.1))

@@ -1,4 +1,4 @@
--- Generations by series: their records do not fall, and have the numbers.
+-- Generations by series: their records do not fall, and tell the numbers.
 use mathlib.Core.Path.{◌≡◌, refl, sym, ap}
 use mathlib.Core.Bool.{Bool, true, false}
 use mathlib.Core.List.{List, [], ◌∷◌, ◌++◌, append-nil, map}
@@ -44,7 +44,7 @@ zeros-first low (n ∷ l) h = go (held n) refl (zeros-first n l (and_r (leb low 
         let z : suc (length l) - length (keep held l) ≡ suc (length l - length (keep held l)) = omega arith in
         rw (e, z, free-none n e) (ap (λ (m : List ℕ). 0 ∷ m) ih)
 
--- what there is of one series: numbers that do not fall, each of four bytes
+-- what is told of one series: numbers that do not fall, each of four bytes
 pub record Counted (g : Generations) : Type 0 where
   pub rises : unfallen 0 g.messages ≡ true
   pub fits : all (λ n. leb n 4294967295) g.messages ≡ true

@@ -1,4 +1,4 @@
--- The part of a set that a record is in says what it is, and each kind is of one part.
+-- The part of a set that a record is of tells what it is, and each kind is of one part.
 use mathlib.Core.Path.{◌≡◌, refl}
 use mathlib.Core.Bool.{Bool, true, false, ◌||◌}
 use mathlib.Core.List.{List}

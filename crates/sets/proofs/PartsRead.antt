@@ -1,4 +1,4 @@
--- Each record of a set that is read, by its part: there is a place for what it has, which spells it.
+-- Each record of a set that is read, by its part: what it tells has a place, and spells it.
 use mathlib.Core.Path.{◌≡◌, refl, sym, ◌∙◌}
 use mathlib.Core.Bool.{Bool, true, false, ◌||◌, true≢false}
 use mathlib.Core.List.{List}

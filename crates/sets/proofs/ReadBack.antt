@@ -48,7 +48,7 @@ upward-is {A} f none n (x ∷ l) h =
     let a : n + 0 ≡ n = omega arith in
     ap₂ (λ (y : A) (m : List A). y ∷ m) (rw a at (h 0 (omega arith))) (upward-is f none (suc n) l (λ i lt. (let b : suc n + i ≡ n + suc i = omega arith in rw b (h (suc i) (omega arith)))))
 
--- what is in records of one kind only
+-- what is told by records of one kind only
 pub legging-kept : (rs : List (List ℕ)) (n : ℕ) → legging_told rs n ≡ legging_told (keep tells_legging rs) n
 unfolding legging_told keep
 legging-kept [] n = refl

@@ -30,7 +30,7 @@ use Rattle.sets.proofs.WriteBack.{bytes_take, cleans}
 
 -- After the series ----------------------------------------------------------------------------
 
--- what stands after the first record and the series' has few enough of each, and all records of the later parts
+-- what stands after the first record and the series' has few enough of each, and all that tells of the later parts
 record Tail (rs : List (List ℕ)) : Type 0 where
   tail : List (List ℕ)
   few : few_enough tail ≡ true

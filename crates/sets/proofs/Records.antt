@@ -1,4 +1,4 @@
--- The records of a set: each is of a kind and length of the set, and has what it was made of.
+-- The records of a set: each is of a kind and length of the set, and tells what it was made of.
 use mathlib.Core.Path.{◌≡◌, refl, sym}
 use mathlib.Core.Bool.{Bool, true, false, ◌&&◌}
 use mathlib.Core.List.{[], ◌++◌}
@@ -73,7 +73,7 @@ pub reached-well : (id : ℕ) → Well (framed 84 (u32 id))
 unfolding framed bytes length_field kind_field u16_at u8_at set_length
 reached-well id = record { four = omega arith; told = refl; known = refl }
 
--- What they have ------------------------------------------------------------------------------
+-- What they tell ------------------------------------------------------------------------------
 
 pub first_kind : (n last : ℕ) → kind_field (first_record n last) ≡ 80
 unfolding first_record framed bytes kind_field u16_at u8_at

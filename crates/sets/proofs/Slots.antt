@@ -1,4 +1,4 @@
--- Legging orders by place: their records rise, and have the places.
+-- Legging orders by place: their records rise, and tell the places.
 use mathlib.Core.Path.{◌≡◌, refl, sym, ◌∙◌}
 use mathlib.Core.Bool.{Bool, true, false, ◌&&◌}
 use mathlib.Core.List.{List, [], ◌∷◌, ◌++◌, append_assoc}
@@ -51,7 +51,7 @@ all_placed v n (l ∷ ls) h =
 abbrev pub slot : (s d : ℕ) → Legging → List (List ℕ)
 slot s d l = if held l.quantity then legging_record s d l ∷ [] else []
 
--- no record from a later place on is of this place
+-- no record from a later place on tells a place
 pub told_none : (n low : ℕ) (rs : List (List ℕ)) → n < low → Rising sort_key low rs → legging_told rs n ≡ no_legging
 unfolding legging_told
 told_none n low [] lt h = refl
@@ -69,7 +69,7 @@ module _ (s d : ℕ) (a : s ≤ 7) (b : d ≤ 1) (l : Legging) (p : Placed l) (r
       go true e = let f = p.full e in (good 3 (place_of s d) (legging_record s d l) (legging-fine s d l a b f.0 f.1 f.2 e), h)
       go false e = h
 
-  -- its mark, and what it has
+  -- its mark, and what it tells
   slot-sort-key : held l.quantity ≡ true → sort_key (legging_record s d l) ≡ place_of s d
   slot-sort-key e = let f = p.full e in (legging-fine s d l a b f.0 f.1 f.2 e).marked
 

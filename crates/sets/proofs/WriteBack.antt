@@ -62,7 +62,7 @@ record SeriesOf (count s : ℕ) (of : List ℕ → Bool) (rs : List (List ℕ)) 
   front : Of 0 (series_records s xs)
   rest : (all of tail && in_order tail && few_enough tail) ≡ true
 
--- what a series' two records have
+-- what a series' two records tell
 listed-told : (s : ℕ) (q r : List ℕ) → encode_message (Status s (u8_at q 5)) ≡ q → encode_message (Away s (u32_at r 5) (u32_at r 9)) ≡ r → kind_field q ≡ 5 → u8_at q 4 ≡ s → kind_field r ≡ 4 → u8_at r 4 ≡ s →
     Tells s (record { status = u8_at q 5; bid = u32_at r 5; offer = u32_at r 9 })
 listed-told s q r a b c d e f = record {

@@ -12,7 +12,6 @@ use Rattle.sets.specs.Set.{row, held_in, joined, read_set, set_of, write_set}
 -- Both ways -----------------------------------------------------------------------------------
 
 -- reading what was written gives the venue and the number back, for every venue that writing takes
--- rule: (h)2
 abbrev pub ReadsBack : Type 0
 ReadsBack = (number room : ℕ) (v : Venue) → FourBytes number → Shaped v → (write_set number v room).number ≡ 0 →
     read_set (write_set number v room).memory ≡ record { number = 0; venue = v; message = number }
@@ -23,7 +22,6 @@ AllBytes [] = Unit {0}
 AllBytes (b ∷ bs) = (b < 256) × AllBytes bs
 
 -- writing what was read from a whole set gives its records back
--- rule: (h)2
 abbrev pub WritesBack : Type 0
 WritesBack = (memory : List ℕ) (rs : List (List ℕ)) → AllBytes memory → held_in memory ≡ row rs → kind_field (get_or rs 0 []) ≡ 80 → (read_set memory).number ≡ 0 →
     set_of (read_set memory).message (read_set memory).venue ≡ rs
@@ -42,7 +40,6 @@ RowsAre = (memory : List ℕ) (rs : List (List ℕ)) → held_in memory ≡ row 
 
 -- "What is read or written must be sound, no message number in it above its own, else 9"; "Refused, reading returns a fresh venue and message number 0":
 -- whatever the memory, the venue that is read has the declared lengths, is sound and goes with its number, which is a u32 where the memory is of bytes
--- rule: (h)7
 pub record ReadsSound : Type 0 where
   pub sound : (memory : List ℕ) → SoundAt (suc (read_set memory).message) (read_set memory).venue
   pub number : (memory : List ℕ) → AllBytes memory → FourBytes (read_set memory).message
@@ -53,7 +50,7 @@ pub record ReadsSound : Type 0 where
 abbrev pub most_set_bytes : ℕ
 most_set_bytes = 12 + (6 + 13) * 8 + 14 * 32 + 22 * 128 + 23 * 32 + 18 * 16 + 9 * 160 + 8
 
--- for a host: memory of so many bytes holds the set of every venue of the declared type
+-- for a host to lend: memory of so many bytes holds the set of every venue of the declared type
 abbrev pub AtMost : Type 0
 AtMost = (number : ℕ) (v : Venue) → Shaped v → length (joined (set_of number v)) ≤ most_set_bytes
 
@@ -82,7 +79,6 @@ uncut (call c ∷ gs) = c ∷ uncut gs
 uncut (cut room ∷ gs) = uncut gs
 
 -- "given memory that holds them": each set's memory holds the set that there is to write when its cut comes (`AtMost`: memory that always does)
--- rule: (h)4
 abbrev pub SetsFit : List Going → Progress → Type 0
 SetsFit [] p = Unit {0}
 SetsFit (call c ∷ gs) p = SetsFit gs (onward p (call_upon c p.venue p.done))
@@ -91,13 +87,11 @@ SetsFit (cut room ∷ gs) p = (length (joined (set_of p.done p.venue)) ≤ room)
 -- "Cutting a message list between any two messages that a run does, writing, reading and going on gives the same records as going on without the cut, given
 -- memory that holds them". Of every list of calls, each given a message or a list, from a sound venue with its number on, and with any number of cuts, wherever
 -- they are: cut or not, the calls come to the same, a call ended by 10 too
--- rule: (h)4
 abbrev pub CutCalls : Type 0
 CutCalls = (gs : List Going) (p : Progress) → SoundAt (suc p.done) p.venue → FourBytes p.done → SetsFit gs p → going_on gs p ≡ by_calls (uncut gs) p
 
--- and of one list of messages: calls with cuts between any of them that together do as many messages as a run of the list on the same venue write its bytes
+-- and of one list of messages: calls with cuts between any of them that together do as many messages as a run of the list upon the same venue write its bytes
 -- and leave its venue. A day that begins by a run from fresh, is cut at noon and goes on by a run of the rest is the case of the fresh venue and two calls
--- rule: (h)4
 abbrev pub Cut : Type 0
 Cut = (p : Progress) (room : ℕ) (gs : List Going) → SoundAt (suc p.done) p.venue → FourBytes p.done → SetsFit gs p → OfList (uncut gs) p →
     let r = onward p (run_upon p.venue p.done room p.left) in

@@ -67,17 +67,14 @@ unfoldable pub generation_record : (series number : ℕ) → List ℕ
 generation_record s n = framed 83 (u8 s ++ u32 n)
 
 -- "each series' last 20 generations, by series, oldest first", from series s on
--- rule: (m)4
 unfoldable pub generation_records : (s : ℕ) → List Generations → List (List ℕ)
 generation_records s [] = []
 generation_records s (g ∷ gs) = map (generation_record s) (keep held g.messages) ++ generation_records (suc s) gs
 
 -- "then the id reached, if any, as kind 84 with u32"
--- rule: (m)4
 unfoldable pub reached_records : (id : ℕ) → List (List ℕ)
 reached_records id = if held id then framed 84 (u32 id) ∷ [] else []
 
--- rule: (h)1
 unfoldable pub set_of : (number : ℕ) → Venue → List (List ℕ)
 set_of number v =
     let os = keep holds_regular v.regular in
@@ -125,7 +122,6 @@ behind r broken = broken
 behind r (row rs) = row (r ∷ rs)
 
 -- "a zero length or one last zero byte ends it for the reader", as the memory's end does: a byte past it reads as 0. The fuel is the memory's length
--- rule: (h)5
 unfoldable pub held_from : (fuel : ℕ) → List ℕ → Held
 held_from zero bs = row []
 held_from (suc fuel) bs = elim (eqb (length_field bs) 0) [
@@ -136,7 +132,6 @@ held_from (suc fuel) bs = elim (eqb (length_field bs) 0) [
   ]
 ]
 
--- rule: (h)2
 unfoldable pub held_in : (memory : List ℕ) → Held
 held_in memory = held_from (length memory) memory
 
@@ -178,7 +173,7 @@ sort_key r =
     else if eqb (part r) 4 then u8_at r 4
     else 0
 
--- the message number in a generation's record
+-- the message number that a generation's record tells
 unfoldable pub generation_told : List ℕ → ℕ
 generation_told r = u32_at r 5
 
@@ -188,7 +183,6 @@ may_follow q r =
     ltb (part q) (part r)
     || (eqb (part q) (part r) && (ltb (sort_key q) (sort_key r) || (eqb (part q) 4 && eqb (sort_key q) (sort_key r) && leb (generation_told q) (generation_told r))))
 
--- rule: (h)7
 unfoldable pub in_order : List (List ℕ) → Bool
 in_order [] = true
 in_order (q ∷ []) = true
@@ -202,7 +196,6 @@ unfoldable pub of_series : (series : ℕ) → List ℕ → Bool
 of_series s r = tells_generation r && eqb (u8_at r 4) s
 
 -- "one too many": a 33rd edition, 129th regular order, 33rd complex order, 17th legging order, 21st generation of a series
--- rule: (h)7
 unfoldable pub few_enough : List (List ℕ) → Bool
 few_enough rs =
     leb (count_of tells_edition rs) 32
@@ -212,11 +205,9 @@ few_enough rs =
     && all (λ r. not (tells_generation r) || leb (count_of (of_series (u8_at r 4)) rs) 20) rs
 
 -- "The reader also takes a short set, …, with 1 for 9 and no editions"; (m): "To its set, but no short one, (h) adds" kinds 83 and 84
--- rule: (m)4
 unfoldable pub of_whole : List ℕ → Bool
 of_whole r = not (eqb (part r) 0) && not (eqb (kind_field r) 1)
 
--- rule: (h)3, (m)4
 unfoldable pub of_short : List ℕ → Bool
 of_short r = (eqb (part r) 2 && not (eqb (kind_field r) 9)) || eqb (part r) 3
 
@@ -229,7 +220,6 @@ series_then (suc count) s of (q ∷ r ∷ rs) =
     eqb (kind_field q) 5 && eqb (u8_at q 4) s && eqb (kind_field r) 4 && eqb (u8_at r 4) s && series_then count (suc s) of rs
 
 -- "a short set, begun by 81 for 80"
--- rule: (h)3, (h)7
 unfoldable pub is_set : List (List ℕ) → Bool
 is_set [] = false
 is_set (r ∷ rs) =
@@ -243,8 +233,7 @@ is_set (r ∷ rs) =
 unfoldable pub places : {A : Type 0} → (count : ℕ) → A → List A → List A
 places count none xs = xs ++ replicate (count - length xs) none
 
--- the order in a record; an order of kind 1 shows all of it: "all size shown"
--- rule: (h)3
+-- the order that a record tells; one of kind 1 shows all of it: "all size shown"
 unfoldable pub regular_told : List ℕ → Regular
 regular_told r = order_at (if eqb (kind_field r) 9 then u32_at r 18 else u32_at r 14) r
 
@@ -264,7 +253,7 @@ listed_told rs s =
     let away = get_or rs (2 * s + 2) [] in
     record { status = u8_at status 5; bid = u32_at away 5; offer = u32_at away 9 }
 
--- the legging order at a place; none if no record has one
+-- the legging order at a place; none if no record tells one
 unfoldable pub legging_told : List (List ℕ) → (place : ℕ) → Legging
 legging_told [] n = no_legging
 legging_told (r ∷ rs) n =
@@ -272,20 +261,18 @@ legging_told (r ∷ rs) n =
     then record { parent = u32_at r 4; price = u32_at r 10; quantity = u32_at r 14 }
     else legging_told rs n
 
--- the last 20 numbers: 0 where there were fewer
--- rule: (m)4
+-- 20 numbers, those told last: 0 where there were fewer
 unfoldable pub generations_told : List (List ℕ) → (series : ℕ) → Generations
 generations_told rs s =
     let numbers = map generation_told (keep (of_series s) rs) in
     record { messages = replicate (20 - length numbers) 0 ++ numbers }
 
--- the id reached; 0 if no record has one
--- rule: (m)4
+-- the id reached; 0 if no record tells one
 unfoldable pub reached_told : List (List ℕ) → ℕ
 reached_told [] = 0
 reached_told (r ∷ rs) = if eqb (kind_field r) 84 then u32_at r 4 else reached_told rs
 
--- what the first record says
+-- what the first record tells
 unfoldable pub number_told : List (List ℕ) → ℕ
 number_told rs = u32_at (get_or rs 0 []) 4
 
@@ -298,7 +285,6 @@ upward f n zero = []
 upward f n (suc count) = f n ∷ upward f (suc n) count
 
 -- "A set without them means none generated and no id looked at"; a short one "means edition 0"
--- rule: (h)2
 unfoldable pub venue_told : List (List ℕ) → Venue
 venue_told rs = record {
   regular = places 128 no_regular (map regular_told (keep tells_regular rs));
@@ -311,8 +297,7 @@ venue_told rs = record {
   reached = reached_told rs;
 }
 
--- 9: a record's fields that no venue has a place for: a series or side out of range, equal ratios, which are kind 2's, and 0 where it would say nothing
--- rule: (h)6
+-- 9: a record's fields that no venue has a place for: a series or side out of range, equal ratios, which are kind 2's, and 0 where it would tell nothing
 unfoldable pub has_place : List ℕ → Bool
 has_place r =
     if eqb (kind_field r) 7 then is_series (u8_at r 4) && held (u32_at r 6)
@@ -326,7 +311,6 @@ has_place r =
 -- The calls -----------------------------------------------------------------------------------
 
 -- "What is read or written must be sound, no message number in it above its own, else 9."
--- rule: (h)6
 unfoldable pub carries : (number : ℕ) → Venue → Bool
 carries number v = sound v && follows (suc number) v
 
@@ -337,12 +321,10 @@ pub record WrittenSet : Type 0 where
   pub memory : List ℕ
 
 -- "Refused, … writing leaves the memory all zero and returns 0 bytes"
--- rule: (h)7
 unfoldable pub not_written : (number room : ℕ) → WrittenSet
 not_written n room = record { number = n; written = 0; memory = replicate room 0 }
 
 -- "Zeros follow the set". "9 before 15": "15, lent memory shorter than the record set"
--- rule: (h)1, (h)5
 unfoldable pub write_set : (number : ℕ) → Venue → (room : ℕ) → WrittenSet
 write_set number v room =
     let bytes = joined (set_of number v) in
@@ -357,7 +339,6 @@ pub record ReadSet : Type 0 where
   pub message : ℕ
 
 -- "Refused, reading returns a fresh venue and message number 0"
--- rule: (h)7
 unfoldable pub not_read : (number : ℕ) → ReadSet
 not_read n = record { number = n; venue = fresh_venue; message = 0 }
 
@@ -368,6 +349,5 @@ read_row rs =
     else if not (all has_place rs && carries (number_told rs) (venue_told rs)) then not_read 9
     else record { number = 0; venue = venue_told rs; message = number_told rs }
 
--- rule: (h)2
 unfoldable pub read_set : (memory : List ℕ) → ReadSet
 read_set memory = elim (held_in memory) [ broken ↦ not_read 16 | row rs ↦ read_row rs ]

@@ -1,14 +1,11 @@
-// Request (d): the increments and the percentage in force at a message number.
-ghost use Rattle.std.specs.Prelude.{◌≡◌, [], ◌∷◌, map, length};
+// Request (d): what held when. The increments and the percent in force at a message number.
+ghost use Rattle.std.specs.Prelude.{◌≡◌, [], ◌∷◌, map};
 ghost use Rattle.rules.specs.Calls as calls;
-ghost use Rattle.rules.specs.Settings.{in_force};
-ghost use Rattle.places.specs.Layout.{size, venue_of};
-ghost use Rattle.venue_bytes.specs.Held.{venue_size, venue_from};
-ghost use Rattle.settings.specs.Forced.{value_after};
+ghost use Rattle.settings.specs.Forced.{value_after, value_at};
 
-use rules::{Edition, Settings};
+use rules::{Edition, Settings, Venue};
 
-// A figure's value after one more edition: the edition's value, where it sets the figure and its message is numbered no higher than `number`; else x.
+// A figure's value after an edition of the row: the edition's, where it sets the figure and its message is numbered no higher.
 fn value_after(e: Edition, number: u32, f: u8, x: u8) -> u8
     ensures { result ≡ value_after number f x e }
 {
@@ -24,15 +21,14 @@ fn value_after(e: Edition, number: u32, f: u8, x: u8) -> u8
     e.value
 }
 
-// A figure in force at a message number: the value of its last edition entered up to that message, else that of edition 0.
-fn value_at(numbers: &[u32], number: u32, f: u8) -> u8
-    requires { length numbers.now ≡ size }
-    ensures { result ≡ in_force (venue_of numbers.now) number f }
+// A figure in force at a message number: the value of its last edition entered by then, else that of edition 0.
+fn value_at(editions: [Edition; 32], number: u32, f: u8) -> u8
+    ensures { result ≡ value_at editions number f }
 {
     let mut x = arithmetic::base_figure(f);
     let mut i: usize = 0;
     while i < 32 {
-        let e = places::edition_at(numbers, i);
+        let e = editions[i];
         x = value_after(e, number, f, x);
         i += 1;
     }
@@ -40,29 +36,27 @@ fn value_at(numbers: &[u32], number: u32, f: u8) -> u8
 }
 
 // The eight increments.
-fn increments_at(numbers: &[u32], number: u32) -> [u8; 8]
-    requires { length numbers.now ≡ size }
-    ensures { result ≡ map (in_force (venue_of numbers.now) number) (0 ∷ 1 ∷ 2 ∷ 3 ∷ 4 ∷ 5 ∷ 6 ∷ 7 ∷ []) }
+fn increments_at(editions: [Edition; 32], number: u32) -> [u8; 8]
+    ensures { result ≡ map (value_at editions number) (0 ∷ 1 ∷ 2 ∷ 3 ∷ 4 ∷ 5 ∷ 6 ∷ 7 ∷ []) }
 {
     [
-        value_at(numbers, number, 0),
-        value_at(numbers, number, 1),
-        value_at(numbers, number, 2),
-        value_at(numbers, number, 3),
-        value_at(numbers, number, 4),
-        value_at(numbers, number, 5),
-        value_at(numbers, number, 6),
-        value_at(numbers, number, 7),
+        value_at(editions, number, 0),
+        value_at(editions, number, 1),
+        value_at(editions, number, 2),
+        value_at(editions, number, 3),
+        value_at(editions, number, 4),
+        value_at(editions, number, 5),
+        value_at(editions, number, 6),
+        value_at(editions, number, 7),
     ]
 }
 
-// The settings, at any message number, of the venue that the bytes stand for. For an unsound venue they are 9 and zeros.
-pub fn settings(venue: &[u8], number: u32) -> Settings
-    requires { length venue.now ≡ venue_size }
-    ensures { result ≡ calls.settings (venue_from venue.now) number }
+// The settings at a message number, whatever it is. An unsound venue's are 9 and zeros.
+pub fn settings(venue: Venue, number: u32) -> Settings
+    ensures { result ≡ calls.settings venue number }
 {
     let mut numbers = [0u32; places::SIZE];
-    if !soundness::load_bytes(&mut numbers, venue) {
+    if !soundness::load_sound(&mut numbers, venue) {
         let none = [0u8; 8];
         return Settings {
             number: 9,
@@ -70,8 +64,9 @@ pub fn settings(venue: &[u8], number: u32) -> Settings
             percent: 0,
         };
     }
-    let increments = increments_at(&numbers, number);
-    let percent = value_at(&numbers, number, 8);
+    let editions = venue.editions;
+    let increments = increments_at(editions, number);
+    let percent = value_at(editions, number, 8);
     Settings {
         number: 0,
         increments,

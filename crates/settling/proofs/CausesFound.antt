@@ -55,6 +55,9 @@ pub record CausesFrom (b : List ℕ) (causes n : ℕ) : Type 0 where
   pub small : causes < 16 ^ (16 - n)
   pub cause : (k : ℕ) → n + k < 16 → cause_at causes k ≡ verdict_number (verdict (venue_of b) (n + k) (legging_in b (n + k)))
 
+pub causes-none : (b : List ℕ) → CausesFrom b 0 16
+causes-none b = record { few = omega arith; small = omega arith; cause = λ k q. absurd (omega arith) }
+
 module _ (b : List ℕ) (causes n : ℕ) (i : CausesFrom b causes n) (p : 0 < n) where
   -- there is room for one more
   pub causes-room : causes < 1152921504606846976
@@ -75,11 +78,11 @@ module _ (b : List ℕ) (causes n : ℕ) (i : CausesFrom b causes n) (p : 0 < n)
           let z : n - 1 + suc k ≡ n + k = omega arith in
           rw z (cause-next causes x h k ∙ i.cause k (omega arith))
 
-  -- a place that stands
-  pub causes-past : verdict (venue_of b) (n - 1) (legging_in b (n - 1)) ≡ Stands → CausesFrom b (causes * 16) (n - 1)
-  causes-past e =
+  -- a free place stands
+  pub causes-free : (l : Legging) → l ≡ legging_in b (n - 1) → l.quantity ≡ 0 → CausesFrom b (causes * 16) (n - 1)
+  causes-free l el q =
       let z : causes * 16 + 0 ≡ causes * 16 = omega arith in
-      rw z at (causes-by 0 (omega arith) (ap verdict_number (sym e)))
+      rw z at (causes-by 0 (omega arith) (ap verdict_number (verdict-free (venue_of b) (n - 1) l (legging_in b (n - 1)) el q)))
 
   pub causes-on : (x : ℕ) (r : Verdict) → x ≡ verdict_number r → r ≡ verdict (venue_of b) (n - 1) (get_or (venue_of b).legging (n - 1) no_legging) → CausesFrom b (causes * 16 + x) (n - 1)
   causes-on x r ex er =

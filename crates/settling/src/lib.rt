@@ -1,5 +1,5 @@
 // The test by which legging orders stand, and settling.
-ghost use Rattle.std.specs.Prelude.{◌≡◌, true, not, ℕ, ◌<◌, eqb, get_or, length};
+ghost use Rattle.std.specs.Prelude.{◌≡◌, true, not, ℕ, ◌<◌, eqb, get_or};
 ghost use Rattle.rules.specs.Step.{mask};
 ghost use Rattle.rules.specs.Words.{no_legging};
 ghost use Rattle.rules.specs.Settings.{increment};
@@ -9,23 +9,18 @@ ghost use Rattle.rules.specs.Standing.{other_clear, pairs, verdict_of, verdict, 
 ghost use Rattle.rules.specs.Generation.{others_stand};
 ghost use Rattle.records.specs.Seen.{seen};
 ghost use Rattle.records.specs.Stage.{stage, ◌does◌};
-ghost use Rattle.places.specs.Layout.{size, legging_in, venue_of, SameCounts};
+ghost use Rattle.places.specs.Layout.{legging_in, venue_of, SameCounts};
 ghost use Rattle.removal.specs.Causes.{cause_at};
 ghost use Rattle.settling.specs.Parts.{other_taken};
-ghost use Rattle.settling.specs.Asked.{asks_series, UnaskedFrom};
-ghost use Rattle.settling.specs.Requirements.{GridAsked, SeriesSettles, StandingNumbers, SideSettles, WrittenSettles};
 ghost use Rattle.levels.specs.Requirements.{TakenReady, GridReady, GridPlaceReady, SidesReady};
-ghost use Rattle.places.specs.Requirements.{RightNumbers, PlaceReady, IncrementReady};
+ghost use Rattle.places.specs.Requirements.{RightNumbers, IncrementReady};
 
 use arithmetic::limit_of;
 use levels::{LegSides, TakenLevels};
 use places::Level;
 use rules::{Cause, Complex, Legging, Verdict};
 
-// Stands for every series, where a function takes a series.
-const EVERY_SERIES: u8 = 8;
-
-// The displayed price of p at side d of series s.
+// A price p at side d of series s, displayed.
 pub fn displayed_in_series(numbers: &[u32], s: u8, d: u8, p: u32) -> u64
     requires { IncrementReady numbers.now s }
     ensures { result ≡ displayed_price (increment (venue_of numbers.now) s) d p }
@@ -33,7 +28,7 @@ pub fn displayed_in_series(numbers: &[u32], s: u8, d: u8, p: u32) -> u64
     arithmetic::displayed_price(prices::increment_of(numbers, s), d, p)
 }
 
-// The displayed price of p at side d of series s is no worse than `best`, the best regular price of that side.
+// A price p at side d of series s, displayed, is no worse than best, the best regular of its side.
 pub fn displayed_no_worse(numbers: &[u32], best: u32, s: u8, d: u8, p: u32) -> bool
     requires { IncrementReady numbers.now s }
     ensures { result ≡ not (better d best (displayed_price (increment (venue_of numbers.now) s) d p)) }
@@ -41,7 +36,7 @@ pub fn displayed_no_worse(numbers: &[u32], best: u32, s: u8, d: u8, p: u32) -> b
     !arithmetic::is_better_wide(d, best as u64, displayed_in_series(numbers, s, d, p))
 }
 
-// The level that the other leg of c takes, the leg that is not in series s.
+// The level that the leg of c takes that is not in series s.
 pub fn other_level(taken: TakenLevels, c: Complex, s: u8) -> Level
     ensures { result ≡ other_taken taken c s }
 {
@@ -51,7 +46,7 @@ pub fn other_level(taken: TakenLevels, c: Complex, s: u8) -> Level
     taken.first
 }
 
-// The clear price that the other leg of c takes.
+// The clear price of that leg.
 pub fn other_clear(numbers: &[u32], taken: TakenLevels, c: Complex, s: u8) -> u32
     requires { TakenReady numbers.now taken c }
     ensures { result ≡ other_clear (venue_of numbers.now) c s }
@@ -66,7 +61,7 @@ pub fn other_clear(numbers: &[u32], taken: TakenLevels, c: Complex, s: u8) -> u3
     )
 }
 
-// The other leg of c has a clear price, the net of that price and the legging order's is at most N, and the size there is enough.
+// The other leg of c has a clear price, its net with the legging order's is no more than N, and its size is enough.
 pub fn can_pair(numbers: &[u32], taken: TakenLevels, c: Complex, s: u8, d: u8, l: Legging) -> bool
     requires { TakenReady numbers.now taken c }
     ensures { result ≡ pairs (venue_of numbers.now) c s d l.price l.quantity }
@@ -106,7 +101,7 @@ pub fn test_order(numbers: &[u32], sides: LegSides, c: Complex, s: u8, d: u8, l:
     Verdict::Stands
 }
 
-// The verdict on what stands at place n.
+// The test of what stands at place n.
 pub fn judge(numbers: &[u32], g: [[Level; 2]; 8], n: usize) -> Verdict
     requires { GridPlaceReady numbers.now g n }
     ensures { result ≡ verdict (venue_of numbers.now) n (get_or (venue_of numbers.now).legging n no_legging) }
@@ -122,56 +117,18 @@ pub fn judge(numbers: &[u32], g: [[Level; 2]; 8], n: usize) -> Verdict
     test_order(numbers, sides, c, s, d, l)
 }
 
-// The test of what stands at place n reads something of series s: the place or a leg of the parent is in s. A free place has no test.
-fn asks_series(numbers: &[u32], n: usize, s: u8) -> bool
-    requires { PlaceReady numbers.now n 16 }
-    ensures { result ≡ asks_series (venue_of numbers.now) s n (legging_in numbers.now n) }
-{
-    let l = places::legging_at(numbers, n);
-    if l.quantity == 0 {
-        return false;
-    }
-    if s == EVERY_SERIES {
-        return true;
-    }
-    if n / 2 == s as usize {
-        return true;
-    }
-    let c = prices::parent_of(numbers, l);
-    if c.series1 == s {
-        return true;
-    }
-    c.series2 == s
-}
-
-// How many places there are up to the last place whose test reads something of series s; 0 where there is none.
-fn places_asked(numbers: &[u32], s: u8) -> usize
-    requires { length numbers.now ≡ size }
-    ensures { UnaskedFrom numbers.now s result }
-{
-    let mut n: usize = 16;
-    while 0 < n {
-        let place = n - 1;
-        if asks_series(numbers, place, s) {
-            return n;
-        }
-        n = place;
-    }
-    0
-}
-
-// The number of each place's verdict, 4 bits each, place 0 lowest. A place whose test reads nothing of series s is not tested: it stands, and its number is 0.
-// From place k on there is no place to test.
-fn verdicts(numbers: &[u32], g: [[Level; 2]; 8], s: u8, k: usize) -> u64
-    requires { GridAsked numbers.now g s k }
+// The number of each place's verdict, by 4 bits, the lowest that of place 0; that of a free place is 0.
+fn verdicts(numbers: &[u32], g: [[Level; 2]; 8]) -> u64
+    requires { GridReady numbers.now g }
     ensures { (n : ℕ) → n < 16 → cause_at result n ≡ verdict_number (verdict (venue_of numbers.now) n (legging_in numbers.now n)) }
 {
     let mut causes: u64 = 0;
-    let mut n = k;
+    let mut n: usize = 16;
     while 0 < n {
         n -= 1;
         causes = causes * 16;
-        if !asks_series(numbers, n, s) {
+        let l = places::legging_at(numbers, n);
+        if l.quantity == 0 {
             continue;
         }
         causes += arithmetic::verdict_number(judge(numbers, g, n)) as u64;
@@ -179,7 +136,7 @@ fn verdicts(numbers: &[u32], g: [[Level; 2]; 8], s: u8, k: usize) -> u64
     causes
 }
 
-// No legging place is filled.
+// No legging order stands.
 pub fn none_stands(numbers: &[u32]) -> bool
     requires { RightNumbers numbers.now }
     ensures { result ≡ eqb (mask (venue_of numbers.now).legging) 0 }
@@ -187,103 +144,34 @@ pub fn none_stands(numbers: &[u32]) -> bool
     places::mask_of(numbers) == 0
 }
 
-// Tests the legging orders whose test reads something of series s, all against the same state, and removes together those that fail. The others stand. The
-// function makes the grid only where there is an order to test.
-fn remove_failing(numbers: &mut [u32], s: u8, out: &mut [u8], at: usize) -> usize
-    requires { SeriesSettles numbers.old s }
+// All legging orders are tested against the same state, and the failures go together. The grid is made only where some legging order stands.
+fn remove_failing(numbers: &mut [u32], out: &mut [u8], at: usize) -> usize
+    requires { RightNumbers numbers.old }
     ensures result_after { stage (venue_of numbers.new) out.new result ≡ seen out.old at does remove (verdict (venue_of numbers.old)) (venue_of numbers.old) }
     ensures counts { SameCounts numbers.old numbers.new }
 {
     if none_stands(numbers) {
         return at;
     }
-    let k = places_asked(numbers, s);
-    if k == 0 {
-        return at;
-    }
     let g = levels::levels(numbers);
-    let causes = verdicts(numbers, g, s, k);
+    let causes = verdicts(numbers, g);
     if causes == 0 {
         return at;
     }
     removal::remove_by_causes(numbers, causes, out, at)
 }
 
-// Each order shows again, and then every legging order is tested.
+// Each order shows again, and then the legging orders are tested.
 pub fn settle_all(numbers: &mut [u32], out: &mut [u8], at: usize) -> usize
     requires { RightNumbers numbers.old }
     ensures result_after { stage (venue_of numbers.new) out.new result ≡ seen out.old at does settle (venue_of numbers.old) }
     ensures counts { SameCounts numbers.old numbers.new }
 {
     levels::show_again(numbers);
-    remove_failing(numbers, EVERY_SERIES, out, at)
+    remove_failing(numbers, out, at)
 }
 
-// Settling where only legging orders whose test reads something of series s can fail. Where orders show again, every legging order is tested.
-pub fn settle_series(numbers: &mut [u32], s: u8, out: &mut [u8], at: usize) -> usize
-    requires { SeriesSettles numbers.old s }
-    ensures result_after { stage (venue_of numbers.new) out.new result ≡ seen out.old at does settle (venue_of numbers.old) }
-    ensures counts { SameCounts numbers.old numbers.new }
-{
-    if !places::none_shows_again(numbers) {
-        return settle_all(numbers, out, at);
-    }
-    remove_failing(numbers, s, out, at)
-}
-
-// Settling where every legging order stands: nothing goes. Where orders show again, every legging order is tested.
-pub fn settle_standing(numbers: &mut [u32], out: &mut [u8], at: usize) -> usize
-    requires { StandingNumbers numbers.old }
-    ensures result_after { stage (venue_of numbers.new) out.new result ≡ seen out.old at does settle (venue_of numbers.old) }
-    ensures counts { SameCounts numbers.old numbers.new }
-{
-    if places::none_shows_again(numbers) {
-        return at;
-    }
-    settle_all(numbers, out, at)
-}
-
-// Settling where regular orders came or went only on side d of series s. The level of that side was `before`: where its price is the same and its size no less,
-// every legging order stands.
-pub fn settle_side(
-    numbers: &mut [u32],
-    s: u8,
-    d: u8,
-    before: Level,
-    out: &mut [u8],
-    at: usize,
-) -> usize
-    requires { SideSettles numbers.old s d before }
-    ensures result_after { stage (venue_of numbers.new) out.new result ≡ seen out.old at does settle (venue_of numbers.old) }
-    ensures counts { SameCounts numbers.old numbers.new }
-{
-    let level = places::level_at(numbers, arithmetic::place_of(s, d));
-    if level.price != before.price {
-        return settle_series(numbers, s, out, at);
-    }
-    if level.size < before.size {
-        return settle_series(numbers, s, out, at);
-    }
-    settle_standing(numbers, out, at)
-}
-
-// Settling where every legging order stands if nothing was written since the position `from`.
-pub fn settle_written(numbers: &mut [u32], from: usize, out: &mut [u8], at: usize) -> usize
-    requires { WrittenSettles numbers.old (length out.old) from at }
-    ensures result_after { stage (venue_of numbers.new) out.new result ≡ seen out.old at does settle (venue_of numbers.old) }
-    ensures counts { SameCounts numbers.old numbers.new }
-{
-    if at != from {
-        return settle_all(numbers, out, at);
-    }
-    // Past the end of the memory the position does not move, whatever was done.
-    if out.len() < at {
-        return settle_all(numbers, out, at);
-    }
-    settle_standing(numbers, out, at)
-}
-
-// Every legging order except the one at place m passes its test.
+// Every legging order but the one at place m passes its test.
 pub fn others_stand(numbers: &[u32], g: [[Level; 2]; 8], m: usize) -> bool
     requires { GridReady numbers.now g }
     ensures { result ≡ others_stand (venue_of numbers.now) m 0 (venue_of numbers.now).legging }

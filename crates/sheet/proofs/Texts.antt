@@ -100,7 +100,7 @@ same (suc f) (suc g) v n r s bs is few a b c d =
         let t = eqb-false (step v (suc n) bs).refused 1 y in
         run_on v n bs is some few f r c t ∙ ap (λ (l : List Report). (step v (suc n) bs).effect.reports ++ l) (on some t) ∙ sym (run_on v n bs is some few g s d t)
 
--- a run that was not ended by 10 has the records of one that has enough memory
+-- a run that was not ended by 10 has the records of one that is lent enough
 filled-not : (fuel : ℕ) (v : Venue) (n r s : ℕ) (bs : List ℕ) → SoundAt (suc n) v → n + length bs ≤ 4294967295 → length bs ≤ fuel → most_report_bytes * length bs ≤ s →
     (run_from fuel v n r bs).number ≢ 10 → (run_from fuel v n r bs).reports ≡ (run_from fuel v n s bs).reports
 unfolding ends after
@@ -154,7 +154,7 @@ text-none v n bs h = ap text_of (none (length bs) v n _ bs h)
 
 -- Before the first message --------------------------------------------------------------------
 
--- every record of a run on a sound venue fits its widths
+-- every record of a run upon a sound venue fits its widths
 run_fits : (fuel : ℕ) (v : Venue) (n room : ℕ) (bs : List ℕ) → SoundAt (suc n) v → ForAll Fits (run_from fuel v n room bs).reports
 unfolding ends after
 run_fits zero v n room bs s = unfold run_from in tt

@@ -1,4 +1,4 @@
--- The result of reading an input.
+-- What came of reading an input.
 use Rattle.std.specs.Prelude.{ℕ, ◌≤◌}
 use Rattle.sheet.specs.declared.Input.{Input}
 use Rattle.sheet.specs.declared.Input.TheVariants.{Bytes, Failed}

@@ -19,7 +19,7 @@ most_input = 65536
 abbrev pub most_text : ℕ
 most_text = 26083
 
--- The sheet of a message list. The run has so much report memory that 10 does not end it: `NeverFills` of the demands.
+-- The sheet of a message list. The run is lent so much that it is not ended by 10: `NeverFills` of the demands.
 unfoldable pub sheet_text : (messages : List ℕ) → List ℕ
 sheet_text m = text_of (records (run (most_report_bytes * length m) m).report)
 
@@ -29,7 +29,7 @@ AnyMemory = (room : ℕ) (m : List ℕ) → length m ≤ 4294967295 → (run roo
 
 -- Message by message --------------------------------------------------------------------------
 
--- the text of the messages of bs on v, after n messages
+-- the text of the messages of bs upon v, n messages having gone before
 unfoldable pub text_from : Venue → (n : ℕ) → List ℕ → List ℕ
 text_from v n bs = text_of (run_from (length bs) v n (most_report_bytes * length bs) bs).reports
 
@@ -37,7 +37,7 @@ text_from v n bs = text_of (run_from (length bs) v n (most_report_bytes * length
 unfoldable pub left : (messages : List ℕ) → Progress → List ℕ
 left m p = text_from p.venue p.done (drop p.at m)
 
--- how many bytes a message takes whose call answered this number: a torn message takes all that is left
+-- how many bytes a message takes whose call answered so: a torn one ends the list
 unfoldable pub message_end : (number : ℕ) → List ℕ → ℕ
 message_end number bs = if eqb number 1 then length bs else length_field bs
 
@@ -51,7 +51,7 @@ pub record Stands (m : List ℕ) (p : Progress) : Type 0 where
   pub counted : p.done ≤ p.at
   pub inside : p.at ≤ length m
 
--- One more message: its text is at the start of a memory. This text and what is left are what was left before. The call did the message, so it is no 9 or 10.
+-- One message more: its text is at the start of a memory. It and what is left are what was left before. Its call did it, so none answers 9 or 10.
 pub record Prints (m : List ℕ) (p : Progress) (memory : List ℕ) (r : Progress) : Type 0 where
   pub is : take r.written memory ++ left m r ≡ left m p
   pub fits : r.written ≤ length memory

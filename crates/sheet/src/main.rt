@@ -1,4 +1,4 @@
-// The printing program: reads messages from standard input or from each file named, 65,536 bytes at most, and prints the sheet of their run, a line per record.
+// The printing program: reads messages on standard input, its first 65,536 bytes at most, and prints the sheet of a run over them, a line per record.
 ghost use Rattle.std.specs.Prelude.{◌≡◌, ◌≤◌, length};
 ghost use Rattle.sheet.specs.Sheet.{Prints, message_end, most_input, started};
 ghost use Rattle.sheet.specs.Inputs.{ReadInto};
@@ -6,7 +6,7 @@ ghost use Rattle.sheet.specs.Requirements.{LineRoom};
 
 use rules::Venue;
 
-// How far the printing is: the number of the last message's call, the messages done and the bytes that they took, the bytes of the last
+// How far the printing has come: how the last message's call went, the messages done and the bytes that they took, the bytes of the last
 // message's text, and the venue after it.
 #[derive(Drop)]
 struct Progress {
@@ -31,7 +31,7 @@ fn start() -> Progress
     }
 }
 
-// How many bytes the message at the front of `rest` takes if its call answered `number`: a torn message (1) takes all that is left.
+// How many bytes the message at the front of `rest` takes, whose call answered `number`: a torn message ends the list.
 fn message_end(rest: &[u8], number: u8) -> usize
     ensures { result ≡ message_end number rest.now }
 {
@@ -41,7 +41,7 @@ fn message_end(rest: &[u8], number: u8) -> usize
     wire::u16_at(rest, 0) as usize
 }
 
-// Does one more message, and writes its lines at the start of `text`.
+// One message more: its lines at the start of `text`.
 fn advance(p: Progress, messages: &[u8], report: &mut [u8], text: &mut [u8]) -> Progress
     requires { LineRoom messages.now report.old text.old p }
     ensures { Prints messages.now p text.new result }
@@ -64,9 +64,9 @@ fn advance(p: Progress, messages: &[u8], report: &mut [u8], text: &mut [u8]) -> 
 
 // Reading and printing ------------------------------------------------------------------------
 
-// No contract of `io` says which bytes it reads or writes, so no contract below does. The code shows them: each message's text, once, in order.
+// No contract of `io` says which bytes are read or written, so none below does. What they are is in the code: each message's text, once, in order.
 
-// Prints a line on standard error: the call of the message after `done` others answered `number`, so the sheet ends before that message.
+// A line on standard error: the call of the message after `done` others answered `number`, so the sheet ends before it.
 fn complain(done: u32, number: u8) {
     io::write_all(libc::STDERR_FILENO, b"sheet: after message ");
     io::print_decimal(libc::STDERR_FILENO, done as u64);
@@ -75,7 +75,7 @@ fn complain(done: u32, number: u8) {
     io::write_all(libc::STDERR_FILENO, b": the sheet ends there\n");
 }
 
-// Prints the sheet of a message list, and returns whether it wrote all of it.
+// Prints the sheet of a message list, and answers whether all of it was written.
 fn print_list(messages: &[u8]) -> bool
     requires { length messages.now ≤ most_input }
 {
@@ -98,7 +98,7 @@ fn print_list(messages: &[u8]) -> bool
     true
 }
 
-// The result of reading: how many bytes, or an error.
+// What came of reading: so many bytes, or an error.
 #[derive(Drop)]
 enum Input {
     Bytes(usize),
@@ -124,7 +124,7 @@ fn read_input(fd: i32, buf: &mut [u8]) -> Input
     Input::Bytes(done)
 }
 
-// Prints the sheet of an input; `name` is for the error message.
+// Prints the sheet of an input, whose name is for the error message.
 fn print_input(fd: i32, name: &[u8]) -> bool {
     let mut input = io::large_buffer();
     let found = read_input(fd, &mut input);
@@ -135,7 +135,7 @@ fn print_input(fd: i32, name: &[u8]) -> bool {
     print_list(&input[..n])
 }
 
-// Prints a line that names a file.
+// A line that names a file.
 fn print_name(name: &[u8]) -> bool {
     if !io::write_all(libc::STDOUT_FILENO, b"# ") {
         return false;
@@ -146,7 +146,7 @@ fn print_name(name: &[u8]) -> bool {
     io::write_all(libc::STDOUT_FILENO, b"\n")
 }
 
-// Prints that line, and the file's sheet.
+// That line, and the file's sheet.
 fn print_named(fd: i32, name: &[u8]) -> bool {
     if !print_name(name) {
         os::fail(b"sheet: standard output");
@@ -155,7 +155,7 @@ fn print_named(fd: i32, name: &[u8]) -> bool {
     print_input(fd, name)
 }
 
-// The same for the file that an argument names.
+// The same of the file that an argument names.
 fn print_file(i: usize) -> bool {
     let mut name = io::buffer();
     let n = os::arg(i, &mut name);
@@ -173,7 +173,7 @@ fn print_file(i: usize) -> bool {
     is_whole
 }
 
-// With no argument, prints the sheet of standard input; otherwise that of each file named, until one fails.
+// With no argument, the sheet of standard input; otherwise that of each file named, until one fails.
 fn main() {
     let count = os::arg_count();
     if count <= 1 {

@@ -17,11 +17,10 @@ of_length k zero = [] ∷ []
 of_length k (suc n) = beginning_at 0 k (of_length k n)
 
 -- "every session of 0 to 3 messages, shorter first"
--- rule: (n)1
 unfoldable pub sessions : (k : ℕ) → List (List ℕ)
 sessions k = of_length k 0 ++ (of_length k 1 ++ (of_length k 2 ++ of_length k 3))
 
--- What must hold of them -----------------------------------------------------------------------
+-- What is asked of them -----------------------------------------------------------------------
 
 -- a session from a list of k messages
 unfoldable pub Within : (k : ℕ) → List ℕ → Type 0
@@ -29,7 +28,6 @@ Within k [] = Unit {0}
 Within k (p ∷ s) = (p < k) × Within k s
 
 -- "none left out"
--- rule: (n)1
 abbrev pub NoneLeftOut : Type 0
 NoneLeftOut = (k : ℕ) (s : List ℕ) → length s ≤ 3 → Within k s → Memᴰ s (sessions k)
 
@@ -52,17 +50,14 @@ unfoldable pub Pairwise : (R : (s t : List ℕ) → Type 0) → List (List ℕ) 
 Pairwise R [] = Unit {0}
 Pairwise R (s ∷ l) = ((t : List ℕ) → Memᴰ t l → R s t) × Pairwise R l
 
--- rule: (n)1
 abbrev pub InOrder : Type 0
 InOrder = (k : ℕ) → Pairwise Before (sessions k)
 
 -- "each once"
--- rule: (n)1
 abbrev pub EachOnce : Type 0
 EachOnce = (k : ℕ) (a b c : List (List ℕ)) (s t : List ℕ) → sessions k ≡ a ++ s ∷ b ++ t ∷ c → s ≢ t
 
 -- "1,885 sessions" of 12 messages
--- rule: (n)1
 abbrev pub Number : Type 0
 Number = (k : ℕ) → length (sessions k) ≡ 1 + k + k * k + k * k * k
 

@@ -1,4 +1,4 @@
-// The sessions of at most three messages from a list, in turn: shorter ones first, then by the messages' places in the list; by value, and in lent memory.
+// The sessions of at most three messages from a list, one after another: shorter first, then by the messages' places in the list; by value, and in lent memory.
 ghost use Rattle.std.specs.Prelude.{◌≡◌, [], ◌∷◌, suc, length};
 ghost use Rattle.std.proofs.Math.Option.{some};
 ghost use Rattle.short_sessions.specs.Sessions.{following};
@@ -7,7 +7,7 @@ ghost use Rattle.short_sessions.specs.Values.{found, places_of};
 
 // By value ------------------------------------------------------------------------------------
 
-// A session: the places of its messages in the list, counted from 0.
+// A session: the places of its messages in the list, the first one's being 0.
 #[derive(Drop)]
 pub enum Session {
     Empty,
@@ -16,7 +16,7 @@ pub enum Session {
     Three(u8, u8, u8),
 }
 
-// A session, or none.
+// A session that was found, or that there is none.
 #[derive(Drop)]
 pub enum Found {
     Is(Session),
@@ -30,7 +30,7 @@ pub fn empty() -> Session
     Session::Empty
 }
 
-// The session after the session of one message, in a list whose last place is `last`.
+// After one message, of a list whose last place is `last`.
 fn after_one(last: u8, a: u8) -> Session
     ensures { some (places_of result) ≡ following (suc last) (a ∷ []) }
 {
@@ -40,7 +40,7 @@ fn after_one(last: u8, a: u8) -> Session
     Session::Two(0, 0)
 }
 
-// The session after a session of two messages.
+// After two.
 fn after_two(last: u8, a: u8, b: u8) -> Session
     ensures { some (places_of result) ≡ following (suc last) (a ∷ b ∷ []) }
 {
@@ -53,7 +53,7 @@ fn after_two(last: u8, a: u8, b: u8) -> Session
     Session::Three(0, 0, 0)
 }
 
-// The session after a session of three messages; none after the last.
+// After three.
 fn after_three(last: u8, a: u8, b: u8, c: u8) -> Found
     ensures { found result ≡ following (suc last) (a ∷ b ∷ c ∷ []) }
 {
@@ -69,7 +69,7 @@ fn after_three(last: u8, a: u8, b: u8, c: u8) -> Found
     Found::Nothing
 }
 
-// The session after `s`, in a list of `k` messages.
+// The session after `s`, of a list of `k` messages.
 pub fn next(k: u8, s: Session) -> Found
     ensures { found result ≡ following k (places_of s) }
 {
@@ -120,7 +120,7 @@ fn session_in(k: u8, memory: &[u8]) -> Found
     Found::Nothing
 }
 
-// Writes four bytes to a memory of four.
+// Four bytes written to a memory of four.
 fn put_bytes(memory: &mut [u8], n: u8, a: u8, b: u8, c: u8)
     requires { length memory.old ≡ 4 }
     ensures { memory.new ≡ n ∷ a ∷ b ∷ c ∷ [] }
@@ -131,7 +131,7 @@ fn put_bytes(memory: &mut [u8], n: u8, a: u8, b: u8, c: u8)
     memory[3] = c;
 }
 
-// Writes a session into four bytes.
+// A session put into four bytes.
 fn put_session(memory: &mut [u8], s: Session)
     requires { length memory.old ≡ 4 }
     ensures { memory.new ≡ held (places_of s) }
@@ -144,8 +144,8 @@ fn put_session(memory: &mut [u8], s: Session)
     }
 }
 
-// Replaces the session that a memory holds, from a list of `k` messages, by the next session, and returns that. Where there is no next session, or the memory
-// holds none, the memory stays as it was. Four zero bytes hold the first session.
+// From the session that a memory holds, of a list of `k` messages, to the next one, which is answered too. Where there is none, or the memory holds none, it is
+// as it was. The first session is held by four bytes of zero.
 pub fn advance(k: u8, memory: &mut [u8]) -> Found
     ensures { moved (found result) memory.new ≡ advanced k memory.old }
 {

@@ -21,7 +21,7 @@ starts = 0 ∷ 6 ∷ 12 ∷ 30 ∷ 48 ∷ 69 ∷ 87 ∷ 95 ∷ 99 ∷ 104 ∷ 11
 abbrev pub bytes : List ℕ
 bytes = messages_of (0 ∷ 1 ∷ 2 ∷ 3 ∷ 4 ∷ 5 ∷ 6 ∷ 7 ∷ 8 ∷ 9 ∷ 10 ∷ 11 ∷ [])
 
--- the message at p stands between two starts, its length field is its length, and its place is printed in two digits at most
+-- the message at p stands between two starts, its length field tells its length, and its place is printed in two digits at most
 abbrev Stood : (p : ℕ) → Type 0
 Stood p =
     let m = message_at p in
@@ -93,7 +93,7 @@ listed p h =
       is = x.1;
     }
 
--- its length field is its length whatever comes after it
+-- its length field tells its length whatever comes after it
 pub tells_first : (p : ℕ) (rest : List ℕ) → Listed p → length_field (message_at p ++ rest) ≡ length (message_at p)
 unfolding length_field u16_at u8_at
 tells_first p rest l =

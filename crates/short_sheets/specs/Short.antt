@@ -56,7 +56,7 @@ unfoldable pub places_line : (s : List ℕ) → List ℕ
 places_line [] = ending
 places_line (p ∷ s) = line (suc p) (map suc s)
 
--- the bytes of report memory of a session's run: it never fills
+-- the bytes of report memory that a session's run is lent: it never fills
 abbrev pub room : ℕ
 room = 3 * most_report_bytes
 
@@ -87,7 +87,7 @@ pub data Printed : (text s : List ℕ) → Type 0 where
   more : {text s : List ℕ} (memory : List ℕ) (written : ℕ) (t : List ℕ) → Printed text s → Stands (session_text s) memory written → following 12 s ≡ some t →
       Printed (text ++ take written memory) t
 
--- With the last session's text it is the text of all sessions.
+-- With the last one's it is the text of all sessions.
 abbrev pub Whole : Type 0
 Whole = (text s memory : List ℕ) (written : ℕ) → Printed text s → Stands (session_text s) memory written → following 12 s ≡ none →
     text ++ take written memory ≡ texts_of (sessions 12)

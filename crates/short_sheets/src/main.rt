@@ -12,7 +12,7 @@ use short_sessions::{Found, Session};
 
 // The messages of a session -------------------------------------------------------------------
 
-// Writes the bytes of `list` from one position to another at `at`, and returns the position after them.
+// The bytes of `list` from one position to another at `at`, and the position after them.
 fn put_part(out: &mut [u8], at: usize, list: &[u8], from: usize, end: usize) -> usize
     requires { (from ≤ end) × (end ≤ length list.now) }
     ensures { seen out.new result ≡ seen out.old at plus take (end - from) (drop from list.now) }
@@ -20,7 +20,7 @@ fn put_part(out: &mut [u8], at: usize, list: &[u8], from: usize, end: usize) -> 
     records::put(out, at, &list[from..end])
 }
 
-// Writes the message at a place of the list. Each line of `list` is a message.
+// The message at a place of the list, which is a line here.
 fn put_message(out: &mut [u8], at: usize, place: u8) -> usize
     requires { place < 12 }
     ensures { seen out.new result ≡ seen out.old at plus message_at place }
@@ -44,7 +44,7 @@ fn put_message(out: &mut [u8], at: usize, place: u8) -> usize
     put_part(out, at, list, from, end)
 }
 
-// Writes a session's messages at the start of a memory, and returns how many bytes they have.
+// A session's messages at the start of a memory, and how many bytes they are.
 fn put_messages(out: &mut [u8], s: Session) -> usize
     requires { MessagesRoom s out.old }
     ensures { Stands (messages_of (places_of s)) out.new result }
@@ -66,7 +66,7 @@ fn put_messages(out: &mut [u8], s: Session) -> usize
 
 // The text of a session -----------------------------------------------------------------------
 
-// A place as it is printed: counted from 1.
+// A place is printed from 1 on.
 fn printed(place: u8) -> u32
     ensures { result ≡ suc place }
 {
@@ -94,7 +94,7 @@ fn put_places(out: &mut [u8], s: Session) -> usize
     }
 }
 
-// Runs a session from a fresh venue, and writes the report.
+// The run of a session: its report in a memory that does not fill.
 fn run_session(s: Session, report: &mut [u8])
     requires { Within 12 (places_of s) }
     ensures { report.new ≡ (run (length report.old) (messages_of (places_of s))).report }
@@ -104,7 +104,7 @@ fn run_session(s: Session, report: &mut [u8])
     engine::run(&messages[..n], report);
 }
 
-// Writes a session's text at the start of a memory, and returns how many bytes it has.
+// A session's text at the start of a memory, and how many bytes it is.
 fn put_session(s: Session, report: &mut [u8], text: &mut [u8]) -> usize
     requires { SessionRoom s report.old text.old }
     ensures { Stands (session_text (places_of s)) text.new result }
@@ -116,7 +116,7 @@ fn put_session(s: Session, report: &mut [u8], text: &mut [u8]) -> usize
 
 // Printing ------------------------------------------------------------------------------------
 
-// Prints every session. No contract of `io` says which bytes it writes, so no contract here does. The code shows them: each session's text, once, in order.
+// Prints every session. No contract of `io` says which bytes are written, so none here does. What they are is in the code: each session's text, once, in order.
 fn main() {
     let mut report = [0u8; 31299];
     let mut text = [0u8; 78256];

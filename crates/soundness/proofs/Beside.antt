@@ -1,4 +1,4 @@
--- Laws of the conditions on orders with one another, as the code tests them.
+-- Laws of what is asked of orders beside one another, as the code tests it.
 use mathlib.Core.Path.{◌≡◌, refl, sym, ap, ap₂, ◌∙◌}
 use mathlib.Core.Bool.{Bool, true, false, not, ◌&&◌, ◌||◌}
 use mathlib.Core.List.{List, [], ◌∷◌, ◌++◌}
@@ -13,18 +13,22 @@ use Rattle.rules.specs.declared.Complex.{Complex}
 use Rattle.rules.specs.declared.Legging.{Legging}
 use Rattle.rules.specs.declared.Edition.{Edition}
 use Rattle.rules.specs.declared.Venue.{Venue}
-use Rattle.rules.specs.Base.{held, all}
+use Rattle.rules.specs.Base.{if◌then◌else◌, held, all}
 use Rattle.rules.specs.Words.{no_regular, is_id, is_price, is_quantity, one_to_one}
 use Rattle.rules.specs.Settings.{increment}
 use Rattle.rules.specs.Prices.{best_own}
 use Rattle.rules.specs.Refusals.{on_increment}
 use Rattle.rules.specs.Standing.{has_leg, parent_of, verdict, stands}
+use Rattle.rules.specs.Complex.{rests_complex, complex_place}
 use Rattle.rules.specs.Places.{blank_legging}
-use Rattle.rules.specs.Sound.{apart, legging_sound, leggings_sound, follows}
+use Rattle.rules.specs.Sound.{apart, legging_sound, leggings_sound, ids_distinct, follows}
 use Rattle.places.specs.Layout.{upto, in_use, regular_in, regulars_used, legging_in, edition_in, venue_of}
 use Rattle.levels.proofs.Scans.{upto-on, upto-end}
-use Rattle.soundness.specs.Checked.{priced_on, on_increments, eight, legging_in_range, has_home}
-use Rattle.venue_reader.proofs.Passes.{all_past, all-stop, all_none, and_assoc}
+use Rattle.book.specs.declared.Found.{Found}
+use Rattle.book.specs.declared.Found.TheVariants.{At, Nothing}
+use Rattle.book.specs.Picks.{complex_found}
+use Rattle.soundness.specs.Checked.{priced_on, on_increments, is_alone, eight, legging_in_range, has_home}
+use Rattle.sound_places.proofs.Passes.{all_past, all-stop, all_none, and_assoc}
 use Rattle.rules.proofs.Ranges.{inside, within-top}
 
 -- A pass over numbered places -----------------------------------------------------------------
@@ -71,6 +75,40 @@ priced-held v o x h e = rw (ne_eqb o.quantity 0 h, e)
 pub prices-scan : (b : List ℕ) → all (priced_on (venue_of b)) (upto (regular_in b) 0 (regulars_used b)) ≡ on_increments (venue_of b)
 unfolding on_increments
 prices-scan b = regulars-scan b (priced_on (venue_of b)) (sym (priced-free (venue_of b) no_regular refl))
+
+-- Ids -----------------------------------------------------------------------------------------
+
+pub alone-free : (v : Venue) (o : Regular) → o.quantity ≡ 0 → true ≡ is_alone v o
+unfolding is_alone
+alone-free v o h = rw (eq-eqb o.quantity 0 h)
+
+module _ (v : Venue) (o : Regular) (h : o.quantity ≡ 0 → ⊥) (r : Found) (e : r ≡ complex_found v o.id) where
+  alone-held : is_alone v o ≡ not (rests_complex v o.id)
+  unfolding is_alone
+  alone-held = rw (ne_eqb o.quantity 0 h)
+
+  pub alone-none : r ≡ Nothing → true ≡ is_alone v o
+  unfolding complex_found
+  alone-none q = go (rests_complex v o.id) refl (sym q ∙ e)
+    where
+      go : (t : Bool) → rests_complex v o.id ≡ t → Nothing ≡ (if t then At (complex_place v o.id) else Nothing) → true ≡ is_alone v o
+      go true w z = let y : ◌≡◌ {A = ℕ} 0 1 = cc in absurd (omega arith)
+      go false w z = sym (alone-held ∙ ap not w)
+
+  pub alone-found : (i : ℕ) → r ≡ At i → false ≡ is_alone v o
+  unfolding complex_found
+  alone-found i q = go (rests_complex v o.id) refl (sym q ∙ e)
+    where
+      go : (t : Bool) → rests_complex v o.id ≡ t → At i ≡ (if t then At (complex_place v o.id) else Nothing) → false ≡ is_alone v o
+      go true w z = sym (alone-held ∙ ap not w)
+      go false w z = let y : ◌≡◌ {A = ℕ} 0 1 = cc in absurd (omega arith)
+
+distinct-is : (v : Venue) → all (is_alone v) v.regular ≡ ids_distinct v
+unfolding ids_distinct is_alone
+distinct-is v = refl
+
+pub ids-scan : (b : List ℕ) → all (is_alone (venue_of b)) (upto (regular_in b) 0 (regulars_used b)) ≡ ids_distinct (venue_of b)
+ids-scan b = regulars-scan b (is_alone (venue_of b)) (sym (alone-free (venue_of b) no_regular refl)) ∙ distinct-is (venue_of b)
 
 -- Series --------------------------------------------------------------------------------------
 

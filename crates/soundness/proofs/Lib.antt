@@ -1,4 +1,3 @@
 pub mod Beside
 pub mod CheckedLaws
-pub mod Merged
 pub mod ReadyFor

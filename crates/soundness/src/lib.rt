@@ -1,4 +1,4 @@
-// Checks whether the venue that bytes hold is sound, and loads its numbers on the way.
+// Whether a venue that is held by value is sound. One that is sound is loaded on the way.
 ghost use Rattle.std.specs.Prelude.{◌≡◌, ◌&&◌, ltb, eqb, length};
 ghost use Rattle.rules.specs.Base.{all};
 ghost use Rattle.rules.specs.Places.{blank_legging};
@@ -6,17 +6,15 @@ ghost use Rattle.rules.specs.Generation.{generations_of};
 ghost use Rattle.rules.specs.Standing.{has_leg};
 ghost use Rattle.rules.specs.Sound.{apart, legging_sound, leggings_sound, ids_distinct, follows};
 ghost use Rattle.places.specs.Layout.{size, legging_in, venue_of};
-ghost use Rattle.venue_bytes.specs.Held.{venue_from};
-ghost use Rattle.soundness.specs.Checked.{priced_on, on_increments, eight, legging_in_range, has_home, orders_sound, Checked, Ready};
+ghost use Rattle.soundness.specs.Checked.{priced_on, on_increments, is_alone, eight, legging_in_range, has_home, orders_sound, Checked, Ready};
 ghost use Rattle.levels.specs.Requirements.{GridReady, GridPlaceReady};
 ghost use Rattle.places.specs.Requirements.{RightNumbers, FiguredNumbers, SeriesReady, IncrementReady, RightSeries};
-ghost use Rattle.venue_bytes.specs.Requirements.{HeldReady};
-ghost use Rattle.soundness.specs.Requirements.{ArrangedNumbers};
 
+use book::Found;
 use places::Level;
-use rules::{Complex, Legging, Regular, Verdict};
+use rules::{Complex, Legging, Regular, Venue, Verdict};
 
-// Orders with one another ---------------------------------------------------------------------
+// Orders beside one another -------------------------------------------------------------------
 
 // A regular order, where it rests, has a price on the increment in force.
 fn on_increment(numbers: &[u32], o: Regular) -> bool
@@ -47,29 +45,33 @@ fn on_increments(numbers: &[u32]) -> bool
     true
 }
 
-// No id rests in both books. Ids rise in each book, so one pass over both finds two equal ids.
+// A regular order, where it rests, has its id alone.
+fn is_alone(numbers: &[u32], o: Regular) -> bool
+    requires { length numbers.now ≡ size }
+    ensures { result ≡ is_alone (venue_of numbers.now) o }
+{
+    if o.quantity == 0 {
+        return true;
+    }
+    let Found::Nothing = book::complex_place(numbers, o.id) else {
+        return false;
+    };
+    true
+}
+
+// No id rests in both books.
 fn ids_distinct(numbers: &[u32]) -> bool
-    requires { ArrangedNumbers numbers.now }
+    requires { length numbers.now ≡ size }
     ensures { result ≡ ids_distinct (venue_of numbers.now) }
 {
     let n = places::regulars_used(numbers);
-    let m = places::complexes_used(numbers);
     let mut i: usize = 0;
-    let mut j: usize = 0;
     while i < n {
-        if m <= j {
-            return true;
-        }
-        let id = places::regular_id(numbers, i);
-        let c = places::complex_at(numbers, j);
-        if id == c.id {
+        let o = places::regular_at(numbers, i);
+        if !is_alone(numbers, o) {
             return false;
         }
-        if id < c.id {
-            i += 1;
-            continue;
-        }
-        j += 1;
+        i += 1;
     }
     true
 }
@@ -137,7 +139,7 @@ fn legging_in_range(l: Legging) -> bool
     l.quantity <= 10000
 }
 
-// A leg's series is s, and its side d.
+// A leg's series and side are these.
 fn is_leg(series: u8, side: u8, s: u8, d: u8) -> bool
     ensures { result ≡ (eqb series s && eqb side d) }
 {
@@ -157,7 +159,7 @@ fn has_leg(c: Complex, s: u8, d: u8) -> bool
     is_leg(c.series2, c.side2, s, d)
 }
 
-// A legging order's parent rests, has this leg, is one to one, and has at least the legging order's quantity open.
+// A legging order's parent rests, has this leg, is one to one, and has as much open.
 fn has_home(numbers: &[u32], l: Legging, s: u8, d: u8) -> bool
     requires { length numbers.now ≡ size }
     ensures { result ≡ has_home (venue_of numbers.now) l s d }
@@ -210,7 +212,7 @@ fn leggings_sound(numbers: &[u32], g: [[Level; 2]; 8]) -> bool
 
 // Prices are on the increments, ids are distinct, no series is locked or crossed, and each legging order is sound.
 fn orders_sound(numbers: &[u32]) -> bool
-    requires { ArrangedNumbers numbers.now }
+    requires { RightNumbers numbers.now }
     ensures { result ≡ orders_sound (venue_of numbers.now) }
 {
     if !on_increments(numbers) {
@@ -226,18 +228,19 @@ fn orders_sound(numbers: &[u32]) -> bool
     leggings_sound(numbers, g)
 }
 
-// Whether the venue that the bytes hold is sound. Where it is, the numbers stand for it afterwards.
-pub fn load_bytes(numbers: &mut [u32], venue: &[u8]) -> bool
-    requires { HeldReady venue.now numbers.old }
-    ensures { Checked (venue_from venue.now) result numbers.new }
+// Whether a venue is sound; one that is stands in the slice afterwards.
+pub fn load_sound(numbers: &mut [u32], v: Venue) -> bool
+    requires { length numbers.old ≡ size }
+    ensures { Checked v result numbers.new }
 {
-    if !venue_reader::load_places(numbers, venue) {
+    if !sound_places::places_sound(v) {
         return false;
     }
+    levels::load(numbers, v);
     orders_sound(numbers)
 }
 
-// A message's number is above that of the message of each edition kept.
+// A message's number is above that of each edition kept.
 fn follows_editions(numbers: &[u32], number: u32) -> bool
     requires { length numbers.now ≡ size }
     ensures { result ≡ all (λ e. ltb e.message number) (venue_of numbers.now).editions }
@@ -253,7 +256,7 @@ fn follows_editions(numbers: &[u32], number: u32) -> bool
     true
 }
 
-// A message's number is above that of each of a series' generations.
+// It is above that of each of a series' generations.
 fn follows_series(numbers: &[u32], s: usize, number: u32) -> bool
     requires { SeriesReady numbers.now s }
     ensures { result ≡ all (λ n. ltb n number) (generations_of (venue_of numbers.now) s) }
@@ -268,7 +271,7 @@ fn follows_series(numbers: &[u32], s: usize, number: u32) -> bool
     true
 }
 
-// A message's number is above that of every generation kept.
+// A message number is above that of every generation.
 fn follows_generations(numbers: &[u32], number: u32) -> bool
     requires { length numbers.now ≡ size }
     ensures { result ≡ all (λ g. all (λ n. ltb n number) g.messages) (venue_of numbers.now).generations }
@@ -294,13 +297,13 @@ pub fn follows_kept(numbers: &[u32], number: u32) -> bool
     follows_generations(numbers, number)
 }
 
-// Whether the venue that the bytes hold is sound, and the number of its next message, `before` + 1, is above that of every edition and generation kept. Where
-// both hold, the numbers stand for it afterwards. `before` + 1 may be 2^32, which is above every number kept.
-pub fn load_bytes_ready(numbers: &mut [u32], venue: &[u8], before: u32) -> bool
-    requires { HeldReady venue.now numbers.old }
-    ensures { Ready (venue_from venue.now) before result numbers.new }
+// Whether a venue is sound and the number of its next message, one more than `before`, above every edition's and generation's kept; one for which this
+// holds stands in the slice afterwards. Nothing kept has a number above the last that there is.
+pub fn load_ready(numbers: &mut [u32], venue: Venue, before: u32) -> bool
+    requires { length numbers.old ≡ size }
+    ensures { Ready venue before result numbers.new }
 {
-    if !load_bytes(numbers, venue) {
+    if !load_sound(numbers, venue) {
         return false;
     }
     if before == 4294967295 {

@@ -237,7 +237,7 @@ module _ (f : ℕ → Venue → Effect) where
 
 -- The whole -----------------------------------------------------------------------------------
 
--- the count is written, the orders at its places are worked, settling is done once, and then they generate
+-- the count is told, the orders at its places are worked, settling is done once, and then they generate
 pub limited-law : (number n x id : ℕ) (places : List ℕ) (v v₁ v₂ v₃ v₄ : Venue) (l₀ l₁ l₂ l₃ l₄ : List ℕ) (a₀ a₁ a₂ a₃ a₄ : ℕ) →
     places ≡ take n (going_round v) → x ≡ examined n v → id ≡ id_reached v places → v₁ ≡ with_reached v id →
     seen l₁ a₁ ≡ seen l₀ a₀ writes (looked x ∷ []) →

@@ -1,10 +1,9 @@
 -- A sweep: each resting order, earliest first. Where all places in use are held, the resting orders are at places 0 to the last in use.
-use mathlib.Core.Path.{◌≡◌, sym, ap, subst, ◌∙◌}
+use mathlib.Core.Path.{◌≡◌, ap, ◌∙◌}
 use mathlib.Core.Bool.{true}
 use mathlib.Core.List.{List}
-use Prim.Native.Nat.{ℕ, ◌-◌, ◌≤◌}
+use Prim.Native.Nat.{ℕ, ◌-◌}
 use native.Mathlib.Omega.{arith}
-use lib.ListN.{length}
 use Rattle.rules.specs.declared.Venue.{Venue}
 use Rattle.rules.specs.Words.{complex_at}
 use Rattle.rules.specs.Effects.{◌⟫◌}
@@ -13,11 +12,9 @@ use Rattle.rules.specs.Generation.{generate}
 use Rattle.rules.specs.Complex.{work, each_of, resting_places, sweep}
 use Rattle.records.specs.Seen.{seen}
 use Rattle.records.specs.Stage.{stage, ◌does◌}
-use Rattle.records.proofs.StageLaws.{follow, stage-room}
+use Rattle.records.proofs.StageLaws.{follow}
 use Rattle.places.specs.Layout.{complexes_used, venue_of, Dense}
 use Rattle.places.proofs.Parts.{complex-at, complex-past}
-use Rattle.settling.specs.Asked.{AllStanding}
-use Rattle.settling.proofs.Silence.{silent-each_of, silent-work, unwritten}
 use Rattle.sweeps.specs.Round.{places_from}
 use Rattle.sweeps.proofs.RoundLaws.{places-within}
 
@@ -39,10 +36,3 @@ sweep-law number places v v₁ v₂ v₃ l₀ l₁ l₂ l₃ a₀ a₁ a₂ a₃
     follow (seen l₀ a₀) (each_of work places v ⟫ settle) (each_of (generate number) places) v₂ v₃ l₂ l₃ a₂ a₃
     (follow (seen l₀ a₀) (each_of work places v) settle v₁ v₂ l₁ l₂ a₁ a₂ w s) g
     ∙ ap (λ (ps : List ℕ). seen l₀ a₀ does (each_of work ps v ⟫ settle ⟫ each_of (generate number) ps)) e
-
--- where nothing was written no order did anything, and what stood stands
-pub works-standing : (v : Venue) (places : List ℕ) (w : Venue) (l m : List ℕ) (at end : ℕ) → AllStanding v → stage w m end ≡ seen l at does each_of work places v →
-    end ≡ at → end ≤ length m → AllStanding w
-works-standing v places w l m at end st e z h =
-    subst AllStanding (sym (unwritten v w l m at end (each_of work places v) e (silent-each_of work silent-work places v) z
-    (let r = stage-room w m l end at (each_of work places v) e in omega arith))) st

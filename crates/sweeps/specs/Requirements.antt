@@ -1,7 +1,6 @@
 -- What the functions require, each part by its name.
 use Rattle.std.specs.Prelude.{◌≡◌, List, ℕ, ◌≤◌, ◌+◌, length}
 use Rattle.places.specs.Layout.{size, Right, Dense, complexes_used, venue_of}
-use Rattle.settling.specs.Asked.{AllStanding}
 use Rattle.sweeps.specs.Rising.{Rising}
 use Rattle.sweeps.specs.declared.Round.{Round}
 
@@ -11,18 +10,7 @@ pub record DenseRising (b : List ℕ) : Type 0 where
   pub dense : Dense b
   pub rising : Rising (venue_of b).complex
 
--- numbers without gaps, and every legging order stands
-pub record SweepReady (b : List ℕ) : Type 0 where
-  pub whole : length b ≡ size
-  pub dense : Dense b
-  pub stand : AllStanding (venue_of b)
-
--- numbers without gaps, the ids of the complex orders rise, and every legging order stands
-pub record LimitedReady (b : List ℕ) : Type 0 where
-  pub rising : DenseRising b
-  pub stand : AllStanding (venue_of b)
-
--- right numbers, and `count` complex places in use from place `first` on
+-- right numbers, and count complex places in use from the first on
 pub record RightPlaces (b : List ℕ) (first count : ℕ) : Type 0 where
   pub whole : length b ≡ size
   pub right : Right b

@@ -1,5 +1,5 @@
 // A sweep and a limited sweep, with their settling.
-// A contract says in one equation: the venue left and all that is written are those of the definition.
+// Each function says in one equation the venue that it leaves and all that it writes: those of its definition.
 ghost use Rattle.std.specs.Prelude.{◌≡◌, ◌++◌, ◌+◌, ◌-◌, ◌≤◌, take};
 ghost use Rattle.rules.specs.Generation.{generate};
 ghost use Rattle.rules.specs.Complex.{going_round, examined, id_reached, each_of};
@@ -8,9 +8,10 @@ ghost use Rattle.records.specs.Seen.{seen};
 ghost use Rattle.records.specs.Stage.{stage, ◌does◌};
 ghost use Rattle.places.specs.Layout.{complexes_used, venue_of, SameCounts};
 ghost use Rattle.sweeps.specs.Round.{places_from, round_places};
-ghost use Rattle.sweeps.specs.Requirements.{SweepReady, LimitedReady, DenseRising, RightPlaces, RightRound, RoundReady};
+ghost use Rattle.places.specs.Requirements.{DenseNumbers};
+ghost use Rattle.sweeps.specs.Requirements.{DenseRising, RightPlaces, RightRound, RoundReady};
 
-// Works the orders at `count` places from `first` on. It does nothing at a freed place.
+// The orders at `count` places from `first` on are worked; at a freed place nothing is done.
 fn work_places(numbers: &mut [u32], first: usize, count: usize, out: &mut [u8], at: usize) -> usize
     requires { RightPlaces numbers.old first count }
     ensures result_after { stage (venue_of numbers.new) out.new result ≡ seen out.old at does each_of complex.work (places_from first count) (venue_of numbers.old) }
@@ -47,16 +48,16 @@ fn generate_places(
     pos
 }
 
-// Works all resting complex orders; then settling, once, and generation. At the start these orders rest at the first places, in rising id, and none moves
-// until the end.
+// All resting complex orders are worked; then settling, once, and generation. Between messages they rest at the first places, in rising id, and none moves
+// till the end.
 pub fn sweep(numbers: &mut [u32], number: u32, out: &mut [u8], at: usize) -> usize
-    requires { SweepReady numbers.old }
+    requires { DenseNumbers numbers.old }
     ensures result_after { stage (venue_of numbers.new) out.new result ≡ seen out.old at does complex.sweep number (venue_of numbers.old) }
     ensures counts { SameCounts numbers.old numbers.new }
 {
     let used = places::complexes_used(numbers);
     let worked = work_places(numbers, 0, used, out, at);
-    let settled = settling::settle_written(numbers, at, out, worked);
+    let settled = settling::settle_all(numbers, out, worked);
     generate_places(numbers, number, 0, used, out, settled)
 }
 
@@ -68,7 +69,7 @@ struct Round {
     others: usize,
 }
 
-// What a limited sweep returns: where its records end, and how many orders it looked at.
+// What a limited sweep comes to: where its records end, and the number of orders that it looked at.
 #[derive(Drop)]
 pub struct Swept {
     pub at: usize,
@@ -125,7 +126,7 @@ fn round_of(numbers: &[u32], n: u8) -> Round
     }
 }
 
-// The id at the last place of the round; where the round has no place, the id reached before.
+// The id at the last of these places; where there is none, the one reached before.
 fn last_looked(numbers: &[u32], r: Round) -> u32
     requires { RoundReady numbers.now r }
     ensures { result ≡ id_reached (venue_of numbers.now) (round_places r) }
@@ -141,7 +142,7 @@ fn last_looked(numbers: &[u32], r: Round) -> u32
     places::reached_id(numbers)
 }
 
-// Works the orders at the places of the round, in its order.
+// The orders to look at are worked, in the order of the round.
 fn work_round(numbers: &mut [u32], r: Round, out: &mut [u8], at: usize) -> usize
     requires { RightRound numbers.old r }
     ensures result_after { stage (venue_of numbers.new) out.new result ≡ seen out.old at does each_of complex.work (round_places r) (venue_of numbers.old) }
@@ -151,7 +152,7 @@ fn work_round(numbers: &mut [u32], r: Round, out: &mut [u8], at: usize) -> usize
     work_places(numbers, 0, r.others, out, pos)
 }
 
-// Generation for the orders at the places of the round, in its order.
+// Generation for them, in that order.
 fn generate_round(numbers: &mut [u32], number: u32, r: Round, out: &mut [u8], at: usize) -> usize
     requires { RightRound numbers.old r }
     ensures result_after { stage (venue_of numbers.new) out.new result ≡ seen out.old at does each_of (generate number) (round_places r) (venue_of numbers.old) }
@@ -161,10 +162,10 @@ fn generate_round(numbers: &mut [u32], number: u32, r: Round, out: &mut [u8], at
     generate_places(numbers, number, 0, r.others, out, pos)
 }
 
-// A sweep of at most n resting orders, which starts after the last id that a limited sweep looked at. It writes first how many orders it looks at (72).
-// Its places stay as they are until its end, whatever happens to the orders there.
+// A sweep of at most n resting orders, which starts after the last id that one looked at: how many it looks at is told first. Its places stay
+// as they are till its end, whatever becomes of the orders there.
 pub fn limited_sweep(numbers: &mut [u32], number: u32, n: u8, out: &mut [u8], at: usize) -> Swept
-    requires { LimitedReady numbers.old }
+    requires { DenseRising numbers.old }
     ensures at_after { stage (venue_of numbers.new) out.new result.at ≡ seen out.old at does complex.limited_sweep number n (venue_of numbers.old) }
     ensures counts { SameCounts numbers.old numbers.new }
     ensures looked { result.looked ≡ examined n (venue_of numbers.old) }
@@ -175,7 +176,7 @@ pub fn limited_sweep(numbers: &mut [u32], number: u32, n: u8, out: &mut [u8], at
     place_writes::put_reached(numbers, id);
     let told = records::emit_looked(out, at, looked);
     let worked = work_round(numbers, round, out, told);
-    let settled = settling::settle_written(numbers, told, out, worked);
+    let settled = settling::settle_all(numbers, out, worked);
     let end = generate_round(numbers, number, round, out, settled);
     Swept { at: end, looked }
 }

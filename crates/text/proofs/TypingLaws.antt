@@ -1,4 +1,4 @@
--- Laws of text written into a slice, and of a number's digits.
+-- Laws of text typed into a lent slice, and of a number's digits.
 use mathlib.Core.Path.{◌≡◌, refl, sym, ap, ap₂, ◌∙◌}
 use mathlib.Core.Bool.{Bool, true, false}
 use mathlib.Core.List.{List, [], ◌∷◌, ◌++◌}

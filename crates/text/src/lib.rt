@@ -1,4 +1,4 @@
-// The sheet as text: writes a line for each record of a report memory into a slice.
+// The sheet as text: a line for each record of a report memory, typed into a lent slice.
 ghost use Rattle.std.specs.Prelude.{◌≡◌, [], ◌∷◌, ◌+◌, ◌<◌};
 ghost use Rattle.rules.specs.Bytes.{u8_at, u16_at, u32_at, as_signed};
 ghost use Rattle.rules.specs.Records.{answer, trade, pair, generated, removed, crossed, cancelled, looked, cause_number, cause_of, record_of, records};
@@ -10,7 +10,7 @@ use records::Next;
 
 // Numbers -------------------------------------------------------------------------------------
 
-// Writes a byte at `at`, and returns the position after it. Where it does not fit the function writes nothing and returns a position past the end.
+// A byte at `at`, and the position after it. Where it does not fit nothing is written, and the position is past the end.
 fn put_byte(out: &mut [u8], at: usize, byte: u8) -> usize
     ensures { seen out.new result ≡ seen out.old at types (byte ∷ []) }
 {
@@ -60,7 +60,7 @@ fn put_word(out: &mut [u8], at: usize, n: u32) -> usize
     put_number(out, pos, n)
 }
 
-// A field: a blank, and a signed number.
+// A space, and a signed number in decimal.
 fn put_signed_word(out: &mut [u8], at: usize, bits: u32) -> usize
     ensures { seen out.new result ≡ seen out.old at types signed_word (as_signed bits) }
 {
@@ -83,7 +83,7 @@ fn put_words(out: &mut [u8], at: usize, fields: &[u32]) -> usize
 
 // A record's line -----------------------------------------------------------------------------
 
-// A line of numbers that are not negative: `kind`, then the fields.
+// A line of a record that has no negative number.
 pub fn put_fields(out: &mut [u8], at: usize, kind: u32, fields: &[u32]) -> usize
     ensures { seen out.new result ≡ seen out.old at types line kind fields.now }
 {
@@ -99,7 +99,7 @@ fn byte_at(s: &[u8], at: usize) -> u32
     wire::u8_at(s, at) as u32
 }
 
-// The number of 16 bits at a position as a number of 32 bits.
+// The number of 16 bits at a position as one of 32.
 fn half_at(s: &[u8], at: usize) -> u32
     ensures { result ≡ u16_at s.now at }
 {
@@ -160,7 +160,7 @@ fn put_generated(out: &mut [u8], at: usize, s: &[u8]) -> usize
     put_fields(out, at, 67, &fields)
 }
 
-// The cause's number in a record. A byte that is no cause's number is read as 10.
+// The cause's number, which a record that was written has as it is; a byte that is no cause reads as 10.
 fn cause_at(s: &[u8], at: usize) -> u32
     ensures { result ≡ cause_number (cause_of (u8_at s.now at)) }
 {

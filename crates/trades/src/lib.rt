@@ -1,5 +1,5 @@
-// Trades and their records: contracts at one price, a pair, a hit, a meeting; and cancelled orders.
-// A contract says in one equation: the venue left and all that is written are those of the definition.
+// What is traded and told: contracts at one price, a pair, a hit, a meeting; and what is cancelled.
+// Each function says in one equation the venue that it leaves and all that it writes: those of its definition.
 ghost use Rattle.std.specs.Prelude.{◌≡◌, ◌≤◌, min, nat_abs, length};
 ghost use Rattle.rules.specs.Trading.{fill_complex, trade_with, pair_off};
 ghost use Rattle.rules.specs.Trading as trading;
@@ -15,7 +15,7 @@ use arithmetic::opposite_of;
 use book::{Found, Pick};
 use rules::{Cause, Legging};
 
-// A taker of this side trades k contracts with the regular order at place j.
+// A taker of a side trades k contracts with the regular order at place j.
 fn trade_with(
     numbers: &mut [u32],
     taker: u32,
@@ -44,7 +44,7 @@ pub fn at_most(q: u32, n: u64) -> u32
     q
 }
 
-// A taker of this side takes contracts that orders show at a price in a series, lowest id first, until it has `quantity` or none are left there.
+// A taker of a side takes contracts that are shown at a price in a series, by id, until it has all or none are left there.
 pub fn trade_at_price(
     numbers: &mut [u32],
     taker: u32,

@@ -48,19 +48,16 @@ together =
 
 pub wrongs : List Trial
 wrongs =
-    -- rule: O2
     -- "executing at the displayed price": it is 113, shown 110
     session 400 (opening ++ buys_both 3 (pos 203) 8 ++ enters 4 0 sell 110 5) 0 6
     (accepted 1 4 ++ (answer 5 0 5 2 ∷ generated 3 0 0 113 110 8 ∷ generated 3 1 0 73 70 8
     ∷ answer 6 0 0 0 ∷ trade 0 1 113 5 4 3 ∷ trade 1 0 90 5 3 2 ∷ pair 3 (pos 203) 5
     ∷ removed 3 0 0 Executed ∷ removed 3 1 0 Executed ∷ []))
-    -- rule: P2, O3
     -- "pairing the other leg with a legging order": order 3 hides the offers of series 1 from order 5, whose leg in series 0 makes none
     ∷ session 400 (opening ++ encode_message (Away 1 60 0)
     ++ encode_message (TwoLeg (record { id = 3; series1 = 1; side1 = sell; series2 = 0; side2 = buy; class = 1; limit = pos 45; quantity = 4; ratio1 = 1; ratio2 = 1 }))
     ++ buys_both 5 (pos 195) 4) 0 7
     (accepted 1 5 ++ (answer 6 0 8 1 ∷ generated 3 1 1 85 85 4 ∷ answer 7 0 12 2 ∷ generated 5 1 0 65 65 4 ∷ []))
-    -- rule: S5
     -- "testing removals one by one"
     ∷ session 500 together 0 12
     (accepted 1 6 ++ (answer 7 0 4 1 ∷ generated 2 1 0 50 50 5 ∷ answer 8 0 4 1 ∷ answer 9 0 4 1
@@ -72,9 +69,9 @@ wrongs =
     ∷ band 300 100 (minus 200) true
     ∷ []
 
--- What no starred trial and no theorem says -------------------------------------------------------
+-- What no starred trial and no theorem tells ------------------------------------------------------
 
--- Choices that keep every venue sound and every account even, whichever way they fall: who goes first, what is in band, what is tested of a price. One
+-- Choices that keep every venue sound and every account even, whichever way they fall: who goes first, what is in band, what is asked of a price. One
 -- session for each, at the edge where there is one.
 
 -- request (g): r of a series and q of another, class 1; and both of side d in series 0 and 1
@@ -125,38 +122,31 @@ choices =
     -- the same with an away offer that keeps N in band: 2 alone at place 0, and place 2 stands
     ∷ session 200 (opening ++ encode_message (Away 1 0 95) ++ buys_both 3 (pos 205) 8 ++ cancels 2) 0 7
     (accepted 1 5 ++ (answer 6 0 5 2 ∷ generated 3 0 0 115 115 8 ∷ generated 3 1 0 75 75 8 ∷ answer 7 0 4 1 ∷ cancelled 2 12 ∷ removed 3 0 0 Unpaired ∷ []))
-    -- rule: C3
     -- "take the highest N, then earliest, at the resting limit", "whichever leg is named first"
     ∷ session 200 (quoted ++ buys_both 1 (pos 190) 5 ++ buys_both 2 (pos 195) 5 ++ two_leg 3 1 buy 0 buy 0 (pos 195) 5 ++ pair_up 4 0 1 sell (minus 190) 12) 0 8
     (accepted 1 8 ++ (crossed 4 2 (minus 195) 5 ∷ crossed 4 3 (minus 195) 5 ∷ crossed 4 1 (minus 190) 2 ∷ []))
     -- "both nets in band": 221 is not in the maker's
     ∷ session 150 (quoted ++ buys_both 1 (pos 221) 5 ++ buys_both 2 (pos 220) 5 ++ pair_up 3 0 1 sell (minus 190) 5) 0 7
     (accepted 1 7 ++ (crossed 3 2 (minus 220) 5 ∷ []))
-    -- rule: C4
     -- "the best own prices, legging included, net ≤ N": 115 and 75 are -190 to a seller
     ∷ session 200 (legged ++ pair_up 4 0 1 sell (minus 190) 5) 0 6 (legged_sheet ++ (answer 6 0 0 0 ∷ removed 3 0 0 Touched ∷ removed 3 1 0 Touched ∷ []))
     ∷ session 200 (legged ++ pair_up 4 0 1 sell (minus 191) 5) 0 6 (legged_sheet ++ (answer 6 0 5 2 ∷ []))
-    -- rule: C5
     -- "while best regular prices net ≤ N and in band": 220 is out of the band of 190, and in that of 210, where N 240 is not
     ∷ session 150 (opening ++ encode_message (Away 0 0 100) ++ buys_both 3 (pos 220) 8) 0 6 (accepted 1 6)
     ∷ session 200 (opening ++ encode_message (Away 0 0 120) ++ buys_both 3 (pos 240) 8) 0 6
     (accepted 1 6 ++ (trade 0 0 130 8 3 1 ∷ trade 1 0 90 8 3 2 ∷ pair 3 (pos 220) 8 ∷ []))
-    -- rule: G7
     -- "nor the away price opposite": p is 100
     ∷ session 150 (opens 0 ++ opens 1 ++ enters 1 1 sell 90 12 ++ encode_message (Away 0 0 100) ++ buys_both 2 (pos 190) 3) 0 5 (accepted 1 5)
     ∷ session 150 (opens 0 ++ opens 1 ++ enters 1 1 sell 90 12 ++ encode_message (Away 0 0 101) ++ buys_both 2 (pos 190) 3) 0 5
     (accepted 1 4 ++ (answer 5 0 1 1 ∷ generated 2 0 0 100 100 3 ∷ []))
-    -- rule: G8
     -- "or at equal price by class 1 while this is class 0"
     ∷ session 300 (legged ++ two_leg 4 0 buy 1 buy 0 (pos 205) 9) 0 6
     (legged_sheet ++ (answer 6 0 5 2 ∷ removed 3 0 0 Replaced ∷ generated 4 0 0 115 115 9 ∷ removed 3 1 0 Replaced ∷ generated 4 1 0 75 75 9 ∷ []))
     ∷ session 200 (legged ++ buys_both 4 (pos 205) 9) 0 6 (legged_sheet ++ (answer 6 0 5 2 ∷ []))
-    -- rule: G9
     -- "no other standing order would then fail its test": a bid of 91 would hide that of 90
     ∷ session 200 (relying (pos 141)) 0 9 (accepted 1 5 ++ (answer 6 0 8 1 ∷ generated 2 1 1 110 110 5 ∷ answer 7 0 8 1 ∷ answer 8 0 8 1 ∷ answer 9 0 8 1 ∷ []))
     ∷ session 200 (relying (pos 140)) 0 9
     (accepted 1 5 ++ (answer 6 0 8 1 ∷ generated 2 1 1 110 110 5 ∷ answer 7 0 8 1 ∷ answer 8 0 8 1 ∷ answer 9 0 9 2 ∷ generated 4 0 0 90 90 5 ∷ []))
-    -- rule: A6, G2
     -- a series in auction: orders trade and leg in, no legging order is made; a sweep passes over a closed one alone
     ∷ session 200 (in_auction 0 ++ opens 1 ++ enters 1 0 sell 130 15 ++ enters 2 1 sell 90 12 ++ buys_both 3 (pos 205) 8 ++ enters 4 0 buy 130 1) 0 6
     (accepted 1 6 ++ (trade 0 0 130 1 4 1 ∷ []))
@@ -165,7 +155,6 @@ choices =
     -- a status leaves the away prices: N 105 as above, 15 in series 0 alone
     ∷ session 200 (opening ++ away_added ++ opens 0 ++ opens 1 ++ buys_both 3 (pos 105) 8) 0 9
     (accepted 1 8 ++ (answer 9 0 1 1 ∷ generated 3 0 0 15 15 8 ∷ []))
-    -- rule: (C)(4)(vii)
     -- "held at a worse price": its own, after a better offer in series 1; the other leg's p is as it was, and stays
     ∷ session 200 (legged ++ enters 4 1 sell 85 12 ++ sweeps) 0 7
     (legged_sheet ++ (answer 6 0 5 2 ∷ answer 7 0 5 2 ∷ removed 3 0 0 Replaced ∷ generated 3 0 0 120 120 8 ∷ []))
@@ -176,7 +165,6 @@ choices =
     ∷ session 250 (opens 6 ++ opens 7 ++ enters 1 6 buy 130 15 ++ enters 2 7 buy 90 12 ++ pair_up 3 6 7 sell (minus 235) 8 ++ enters 4 6 buy 150 3) 0 6
     (accepted 1 4 ++ (answer 5 0 40960 2 ∷ generated 3 6 1 145 150 8 ∷ generated 3 7 1 105 110 8
     ∷ answer 6 0 0 0 ∷ trade 6 0 145 3 4 3 ∷ trade 7 1 90 3 3 2 ∷ pair 3 (minus 235) 3 ∷ removed 3 6 1 Executed ∷ removed 3 7 1 Executed ∷ []))
-    -- rule: C9, C6
     -- "Sweep: all this for each resting order, earliest first, but settle once and then generate"; "the taker's first"
     ∷ session 400 (kept_apart ++ sweeps ++ sweeps) 0 14
     (accepted 1 8 ++ (answer 9 0 8 1 ∷ generated 5 1 1 121 125 4 ∷ answer 10 0 8 1 ∷ answer 11 0 8 1 ∷ answer 12 0 8 1
@@ -243,7 +231,6 @@ reserved =
     ∷ session 200 (reserves 1 0 buy 120 6 1 ++ enters 2 0 buy 115 4 ++ enters 3 0 sell 115 4) 0 3 (accepted 1 3 ++ (trade 0 1 120 1 3 1 ∷ trade 0 1 120 3 3 1 ∷ []))
     ∷ session 300 (reserves 1 0 sell 100 3 1 ++ enters 2 0 sell 105 5 ++ enters 3 0 buy 105 5) 0 3
     (accepted 1 3 ++ (trade 0 0 100 1 3 1 ∷ trade 0 0 100 2 3 1 ∷ trade 0 0 105 2 3 2 ∷ []))
-    -- rule: (e)2
     -- "then the legging order": it is at 115 too
     ∷ session 500 (legged ++ reserves 4 0 buy 115 5 2 ++ enters 5 0 sell 115 9) 0 7
     (legged_sheet ++ (answer 6 0 5 2 ∷ answer 7 0 0 0 ∷ trade 0 1 115 2 5 4 ∷ trade 0 1 115 3 5 4 ∷ trade 0 1 115 4 5 3 ∷ trade 1 0 90 4 3 2
@@ -269,7 +256,7 @@ reserved =
     -- the venue left: 2 of 4; and 1 of 1
     ∷ upon (with_one 5 2 3) 0 100 (enters 2 0 buy 100 1) 0 1 (answer 1 0 0 0 ∷ trade 0 0 100 1 2 1 ∷ []) (with_last (with_one 4 2 2) 2)
     ∷ upon (with_one 5 2 3) 0 100 (enters 2 0 buy 100 4) 0 1 (answer 1 0 0 0 ∷ trade 0 0 100 2 2 1 ∷ trade 0 0 100 2 2 1 ∷ []) (with_last (with_one 1 1 0) 2)
-    -- an order that arrives takes with all of it; of the 6 left 3 show. "cancelled" has all that is left
+    -- an order that arrives takes with all of it; of the 6 left 3 show. "cancelled" tells all that is left
     ∷ session 300 (enters 1 0 sell 100 4 ++ reserves 2 0 buy 100 10 3 ++ enters 3 0 sell 100 5 ++ cancels 2) 0 4
     (accepted 1 2 ++ (trade 0 0 100 4 2 1 ∷ answer 3 0 0 0 ∷ trade 0 1 100 3 3 2 ∷ trade 0 1 100 2 3 2 ∷ answer 4 0 0 0 ∷ cancelled 2 1 ∷ []))
     ∷ session 100 (reserves 1 0 buy 100 10 3 ++ cancels 1) 0 2 (accepted 1 2 ++ (cancelled 1 10 ∷ []))
@@ -408,7 +395,6 @@ unequal =
     ∷ session 300 (one_each ++ enters 4 0 buy 110 5 ++ enters 5 1 buy 70 5 ++ ratioed 6 sell 2 1 (minus 290) 1) 0 8
     (one_each_sheet ++ (answer 6 0 5 2 ∷ answer 7 0 5 2 ∷ answer 8 0 0 0 ∷ removed 3 0 0 NoUnit ∷ removed 3 1 0 NoUnit
     ∷ trade 0 1 110 2 6 4 ∷ trade 1 1 70 1 6 5 ∷ pair 6 (minus 290) 1 ∷ []))
-    -- rule: (g)6
     -- "never generate": one to one both would, at 115 and 75
     ∷ session 200 (opening ++ ratioed 3 buy 2 1 (pos 205) 8 ++ ratioed 4 buy 1 2 (pos 205) 8 ++ sweeps) 0 7 (accepted 1 7)
     -- a sweep works it; "Quantities of theirs outside 65 are units": 2 paired and 1 cancelled
@@ -513,7 +499,7 @@ edges =
     ∷ ranged (Increment 7 1 0) true ∷ ranged (Increment 0 5 4294967295) true ∷ ranged (Increment 0 10 1) true
     ∷ ranged (Increment 8 5 1) false ∷ ranged (Increment 0 0 1) false ∷ ranged (Increment 0 2 1) false
     ∷ ranged (Percent 0 0) true ∷ ranged (Percent 50 4294967295) true ∷ ranged (Percent 51 1) false
-    -- "1, 5 or 10": three of all that a u8 can be
+    -- "1, 5 or 10": three of all that a u8 tells
     ∷ counted (increments_below 256) 3
     ∷ ranged (LimitedSweep 0) false ∷ ranged (LimitedSweep 1) true ∷ ranged (LimitedSweep 32) true ∷ ranged (LimitedSweep 33) false
     ∷ []
@@ -572,7 +558,7 @@ refused =
     ∷ session 500 (opens 0 ++ opens 1 ++ pairs 33 1 ++ pairs 1 1) 0 36 (accepted 1 34 ++ (answer 35 7 0 0 ∷ answer 36 5 0 0 ∷ []))
     -- 8: "cancel 9, fresh"
     ∷ session 100 (cancels 9) 0 1 (answer 1 8 0 0 ∷ [])
-    -- a refused message has the mask and the count of the unchanged venue
+    -- a refused message tells the mask and the count of the venue as it stands
     ∷ session 200 (legged ++ cancels 9) 0 6 (legged_sheet ++ (answer 6 8 5 2 ∷ []))
     -- 9: "two orders with id 1": "the venue as given, all report bytes 0"
     ∷ upon twice 7 100 sweeps 9 0 [] twice
@@ -594,12 +580,10 @@ met =
     session 300 (legged ++ enters 4 0 buy 110 2 ++ enters 5 0 sell 110 6) 0 7
     (legged_sheet ++ (answer 6 0 5 2 ∷ answer 7 0 0 0 ∷ trade 0 1 115 6 5 3 ∷ trade 1 0 90 6 3 2 ∷ pair 3 (pos 205) 6
     ∷ removed 3 0 0 Executed ∷ removed 3 1 0 Executed ∷ []))
-    -- rule: O3
     -- "k contracts of the other leg at its clear price", which is better than when it was made: the net traded is 200
     ∷ session 300 (legged ++ enters 4 1 sell 85 12 ++ enters 5 0 sell 115 5) 0 7
     (legged_sheet ++ (answer 6 0 5 2 ∷ answer 7 0 0 0 ∷ trade 0 1 115 5 5 3 ∷ trade 1 0 85 5 3 4 ∷ pair 3 (pos 200) 5
     ∷ removed 3 0 0 Executed ∷ removed 3 1 0 Executed ∷ []))
-    -- rule: O3
     -- "removal of all its parent's legging orders", and of no other's
     ∷ session 300 (opening ++ opens 2 ++ buys_both 3 (pos 205) 8 ++ pair_up 4 2 1 buy (pos 100) 2 ++ encode_message (Away 2 0 20) ++ sweeps ++ enters 5 0 sell 115 8) 0 10
     (accepted 1 5 ++ (answer 6 0 5 2 ∷ generated 3 0 0 115 115 8 ∷ generated 3 1 0 75 75 8 ∷ answer 7 0 5 2 ∷ answer 8 0 5 2
@@ -611,23 +595,18 @@ met =
 
 pub settled : List Trial
 settled =
-    -- rule: S1
     -- "both its series are open (else cause 6)": one is closed; the second is in auction
     next (encode_message (Status 0 0)) (answer 6 0 0 0 ∷ removed 3 0 0 NotOpen ∷ removed 3 1 0 NotOpen ∷ [])
     ∷ next (encode_message (Status 1 0)) (answer 6 0 0 0 ∷ removed 3 0 0 NotOpen ∷ removed 3 1 0 NotOpen ∷ [])
     ∷ next (in_auction 1) (answer 6 0 0 0 ∷ removed 3 0 0 NotOpen ∷ removed 3 1 0 NotOpen ∷ [])
-    -- rule: S2
     -- "N is in band (else 5)": 205 is not in that of 150
     ∷ next (encode_message (Away 0 0 60)) (answer 6 0 0 0 ∷ removed 3 0 0 OutOfBand ∷ removed 3 1 0 OutOfBand ∷ [])
-    -- rule: S4
     -- "net with it ≤ N": 115 and 95 are 210; the size at 95 is 20
     ∷ session 250 (opening ++ enters 3 1 sell 95 20 ++ buys_both 4 (pos 205) 20 ++ cancels 2) 0 7
     (accepted 1 5 ++ (answer 6 0 5 2 ∷ generated 4 0 0 115 115 12 ∷ generated 4 1 0 75 75 15 ∷ answer 7 0 4 1 ∷ cancelled 2 12 ∷ removed 4 0 0 Unpaired ∷ []))
-    -- rule: S4
     -- "size there ≥ its quantity": 8, and then 7
     ∷ session 250 (legged ++ enters 4 1 buy 90 4 ++ enters 5 1 buy 90 1) 0 7
     (legged_sheet ++ (answer 6 0 5 2 ∷ trade 1 0 90 4 4 2 ∷ answer 7 0 4 1 ∷ trade 1 0 90 1 5 2 ∷ removed 3 0 0 Unpaired ∷ []))
-    -- rule: S3
     -- "its displayed price is no worse than the best regular of its side (else 1)": 75, of 80
     ∷ next (enters 4 1 buy 80 5) (answer 6 0 1 1 ∷ removed 3 1 0 Worse ∷ [])
     -- "the lowest cause that applies": 1 and 2 at once
@@ -713,7 +692,6 @@ worked =
     -- best regular prices of both legs: then none is left in series 1, which order 3 names first and order 4 second, and an away offer is no such price
     ∷ session 250 (opening ++ encode_message (Away 1 0 100) ++ pair_up 3 1 0 buy (pos 225) 20 ++ pair_up 4 0 1 buy (pos 225) 2) 0 7
     (accepted 1 5 ++ (answer 6 0 4 1 ∷ trade 1 0 90 12 3 2 ∷ trade 0 0 130 12 3 1 ∷ pair 3 (pos 220) 12 ∷ generated 3 1 0 95 95 3 ∷ answer 7 0 4 1 ∷ []))
-    -- rule: C8
     -- "The rest rests; settle; generate for its first leg, then second": order 4's legging orders go before order 5's come
     ∷ session 400 (opening ++ enters 3 1 sell 95 20 ++ buys_both 4 (pos 205) 8 ++ buys_both 5 (pos 220) 14) 0 7
     (accepted 1 5 ++ (answer 6 0 5 2 ∷ generated 4 0 0 115 115 8 ∷ generated 4 1 0 75 75 8
@@ -726,7 +704,6 @@ worked =
     ∷ generated 4 0 0 115 115 3 ∷ generated 4 1 0 75 75 3 ∷ []))
     ∷ session 200 (opens 0 ++ opens 1 ++ buys_both 1 (pos 205) 8 ++ enters 2 0 sell 130 15 ++ enters 3 1 sell 90 12 ++ sweeps) 0 6
     (accepted 1 5 ++ (answer 6 0 5 2 ∷ generated 1 0 0 115 115 8 ∷ generated 1 1 0 75 75 8 ∷ []))
-    -- rule: C10
     -- "Cancel: 71, then removals (4)"
     ∷ next (cancels 3) (answer 6 0 0 0 ∷ cancelled 3 8 ∷ removed 3 0 0 Withdrawn ∷ removed 3 1 0 Withdrawn ∷ [])
     ∷ []
@@ -743,7 +720,6 @@ near_top n = opens 0 ++ opens 1 ++ enters 1 1 sell 100 5 ++ encode_message (Away
 
 pub made : List Trial
 made =
-    -- rule: G4
     -- "clear price present": there is no regular offer
     session 100 (quoted ++ buys_both 1 (pos 90) 5) 0 5 (accepted 1 5)
     -- "displayed price from the increment": 3 would be shown at 0
@@ -752,14 +728,11 @@ made =
     -- "to 100,000": 100,001 would be shown at 100,005
     ∷ session 150 (near_top (minus 99900)) 0 5 (accepted 1 4 ++ (answer 5 0 2 1 ∷ generated 2 0 1 100000 100000 4 ∷ []))
     ∷ session 150 (near_top (minus 99901)) 0 5 (accepted 1 5)
-    -- rule: G6
     -- "not worse than best regular of its side": 115 is, of 120
     ∷ session 150 (opening ++ enters 3 0 buy 120 5 ++ buys_both 4 (pos 205) 8) 0 6 (accepted 1 5 ++ (answer 6 0 4 1 ∷ generated 4 1 0 75 75 8 ∷ []))
-    -- rule: G7
     -- "p itself": 113 reaches 112, though 110 is shown
     ∷ session 150 (away_alone 112 ++ buys_both 2 (pos 203) 3) 0 5 (accepted 1 5)
     ∷ session 150 (away_alone 114 ++ buys_both 2 (pos 203) 3) 0 5 (accepted 1 4 ++ (answer 5 0 1 1 ∷ generated 2 0 0 113 110 3 ∷ []))
-    -- rule: G7
     -- "any own price opposite": in the sweep, which touches too, order 3's legging order, at 100, is there again before order 4's turn
     ∷ session 300 (three_open ++ enters 2 1 buy 70 5 ++ encode_message (Away 0 80 120) ++ pair_up 3 0 1 sell (minus 170) 4 ++ pair_up 4 0 2 buy (pos 150) 5 ++ sweeps) 0 9
     (accepted 1 6 ++ (answer 7 0 2 1 ∷ generated 3 0 1 100 100 4 ∷ answer 8 0 1 1 ∷ removed 3 0 1 Touched ∷ generated 4 0 0 100 100 5
@@ -935,7 +908,7 @@ lefts =
     ∷ onward (with_last (lone 1) 1) 3 20 (cancels 9 ++ cancels 1) 10 1 (answer 4 8 0 0 ∷ []) (with_last (lone 1) 1)
     ∷ []
 
--- A run on a venue that a host holds --------------------------------------------------------
+-- A run upon a venue that a host holds --------------------------------------------------------
 
 pub continued : List Trial
 continued =
@@ -1121,13 +1094,12 @@ sells_both = record { id = 4; series1 = 0; side1 = sell; series2 = 1; side2 = se
 
 pub traffic : List Trial
 traffic =
-    -- rule: (m)1
     -- "at most 20 are generated in any 256 consecutive messages, the present one counted": 10 and 265 are in one, 10 and 266 are not
     upon (busy [] (replicate 20 10) []) 264 100 sweeps 0 1 (answer 265 0 4 1 ∷ generated 3 1 0 75 75 8 ∷ [])
     (busy (no_legging ∷ no_legging ∷ leg 3 75 8 ∷ []) (replicate 20 10) (265 ∷ []))
     ∷ upon (busy [] (replicate 20 10) []) 265 100 sweeps 0 1 (answer 266 0 5 2 ∷ generated 3 0 0 115 115 8 ∷ generated 3 1 0 75 75 8 ∷ [])
     (busy (leg 3 115 8 ∷ no_legging ∷ leg 3 75 8 ∷ []) (replicate 19 10 ++ (266 ∷ [])) (266 ∷ []))
-    -- only the oldest of the 20 is tested, and 19 are under the ceiling
+    -- the oldest of the 20 alone is asked, and 19 are under the ceiling
     ∷ upon (busy [] (10 ∷ replicate 19 265) (replicate 19 265)) 265 100 sweeps 0 1 (answer 266 0 5 2 ∷ generated 3 0 0 115 115 8 ∷ generated 3 1 0 75 75 8 ∷ [])
     (busy (leg 3 115 8 ∷ no_legging ∷ leg 3 75 8 ∷ []) (replicate 19 265 ++ (266 ∷ [])) (replicate 19 265 ++ (266 ∷ [])))
     -- a replacement counts; at the ceiling the holder stays
@@ -1159,11 +1131,11 @@ traffic =
     (accepted 1 8 ++ (answer 9 0 8 1 ∷ generated 5 1 1 121 125 4 ∷ answer 10 0 8 1 ∷ answer 11 0 8 1 ∷ answer 12 0 8 1
     ∷ answer 13 0 28 3 ∷ trade 0 0 100 5 7 1 ∷ trade 2 0 50 5 7 8 ∷ pair 7 (pos 150) 5 ∷ generated 6 1 0 85 85 3 ∷ generated 7 2 0 20 20 2
     ∷ answer 14 0 24 2 ∷ looked 3 ∷ crossed 5 6 (minus 215) 3 ∷ removed 5 1 1 Executed ∷ removed 6 1 0 Executed ∷ generated 5 1 1 121 125 1 ∷ []))
-    -- "a sweep": order 1 legs in, order 2 touches, and all this before the settling: order 5's legging orders are touched, do not fail, and come again for 3
+    -- "a sweep": order 1 legs in, order 2 touches, and all this before the settling: order 5's legging orders are touched, do not fail, and come anew for 3
     ∷ session 250 (buys_both 1 (pos 220) 2 ++ pair_up 2 0 1 sell (minus 190) 5 ++ enters 3 0 sell 130 5 ++ enters 4 1 sell 90 5 ++ buys_both 5 (pos 205) 5 ++ limited 3) 0 6
     (accepted 1 4 ++ (answer 5 0 5 2 ∷ generated 5 0 0 115 115 5 ∷ generated 5 1 0 75 75 5 ∷ answer 6 0 5 2 ∷ looked 3 ∷ trade 0 0 130 2 1 3 ∷ trade 1 0 90 2 1 4 ∷ pair 1 (pos 220) 2
     ∷ removed 5 0 0 Touched ∷ removed 5 1 0 Touched ∷ generated 5 0 0 115 115 3 ∷ generated 5 1 0 75 75 3 ∷ []))
-    -- settling before generation: order 4's, made for 5, fail and come again for 3
+    -- settling before generation: order 4's, made for 5, fail and come anew for 3
     ∷ session 250 (buys_both 1 (pos 220) 2 ++ enters 2 0 sell 130 5 ++ enters 3 1 sell 90 5 ++ buys_both 4 (pos 205) 5 ++ limited 2) 0 5
     (accepted 1 3 ++ (answer 4 0 5 2 ∷ generated 4 0 0 115 115 5 ∷ generated 4 1 0 75 75 5 ∷ answer 5 0 5 2 ∷ looked 2 ∷ trade 0 0 130 2 1 2 ∷ trade 1 0 90 2 1 3 ∷ pair 1 (pos 220) 2
     ∷ removed 4 0 0 Unpaired ∷ removed 4 1 0 Unpaired ∷ generated 4 0 0 115 115 3 ∷ generated 4 1 0 75 75 3 ∷ []))
@@ -1194,7 +1166,7 @@ unfoldable staged : Unit {0}
 unfolding together wrongs quoted relying in_auction resting_before kept_apart choices dearer respecting pairs gone layouts whole double increments_below edges offers twice refused met settled three_open far_apart worked away_alone near_top made standing base at_top is_sound unsound weighed misweighed locked stale stale_complex stale_legging listing market spreading faults lone quoting idle all_held lefts continued named numbers with_one half all_shown too_short reserved weighing ratioed one_each one_each_sheet tenth unequal increments bands dating dated many full finer coarser in_all seasons limited three outbid meeting sells_both traffic
 staged = tt
 
--- every trial of a list comes out as it should; tested list by list, which takes the checker less time than all at once
+-- every trial of a list comes out as it should; asked list by list, which takes the checker less than all at once
 record Holds (l : List Trial) : Type 0 where
   pub out : map outcome l ≡ map expected l
 

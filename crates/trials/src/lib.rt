@@ -1,1 +1,1 @@
-// 01's trials that are not in rules, and the filing's examples: the definitions, computed on sessions.
+// 01's trials, beyond those of rules: definitions at work, by computation alone.

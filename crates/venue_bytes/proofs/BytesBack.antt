@@ -103,8 +103,7 @@ messages-read s = upto-along (λ k. get_or (upto (λ i. u32_at s (4 * i)) 0 20) 
 
 module _ (bs : List ℕ) (all : AllBytes bs) where
   -- and then the n rows of a table, each first among the bytes from its position on
-  and-table : {A : Type 0} (row : A → List ℕ) (width : ℕ) → ((x : A) → length (row x) ≡ width) → (f : ℕ → A) (from n : ℕ) (xs : List ℕ) →
-      width * n + from ≤ length bs → First bs from xs →
+  and-table : {A : Type 0} (row : A → List ℕ) (width : ℕ) → ((x : A) → length (row x) ≡ width) → (f : ℕ → A) (from n : ℕ) (xs : List ℕ) → width * n + from ≤ length bs → First bs from xs →
       ((j : ℕ) → (let s = drop (width * j + from) bs in AllBytes s → width ≤ length s → First s width (row (f j)))) → First bs (from + width * n) (xs ++ rows row (upto f 0 n))
   and-table row width even f from n xs le first spelled =
       let z : width * 0 + from ≡ from = omega arith in

@@ -9,8 +9,6 @@ use lib.ListN.{length, get_or, take, drop, length-append}
 use lib.Seq.{take-suc, take_all, length-take-le}
 use Rattle.records.specs.Seen.{Seen, seen, pasted, ◌plus◌}
 use Rattle.records.proofs.SeenLaws.{plus-in, pasted-nil, pasted_length, pasted-pasted, part-all}
-use Rattle.places.specs.Layout.{upto}
-use Rattle.places.proofs.Tables.{upto-at}
 use Rattle.venue_bytes.specs.Held.{rows, row_at, rows_at}
 
 module _ {A : Type 0} (row : A → List ℕ) where
@@ -73,7 +71,7 @@ module _ {A : Type 0} (row : A → List ℕ) where
                 ∙ ap (pasted out₀ from) (sym more);
           }
 
--- the row at a position, read from the bytes from there on
+-- the row at a position, read from the bytes lent from there on
 pub row_read : {A : Type 0} (row : List ℕ → A) (from width : ℕ) (s : List ℕ) (i at : ℕ) (x : A) → at ≡ width * i + from →
     x ≡ row (take (length s - at) (drop at s)) → x ≡ row_at row from width s i
 unfolding row_at
@@ -87,10 +85,6 @@ rows-read {A} read from width later short s i at next x e f p =
     let row : List ℕ = take (length s - at) (drop at s) in
     row_read (read row) later short s i next x f p
     ∙ ap (λ (g : List ℕ → A). row_at g later short s i) (row_read read from width s i at (read row) e refl)
-
--- place i of a table
-pub table_at : {A : Type 0} (f : ℕ → A) (none : A) (n i : ℕ) → i < n → f i ≡ get_or (upto f 0 n) i none
-table_at f none n i h = let e : 0 + i ≡ i = omega arith in sym (upto-at f none 0 n i h ∙ ap f e)
 
 -- bytes written at a position are the row's
 pub row_put : (l m : List ℕ) (at end : ℕ) (a b : List ℕ) → seen m end ≡ seen l at plus a → a ≡ b → m ≡ (seen l at plus b).memory

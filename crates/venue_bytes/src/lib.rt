@@ -1,26 +1,12 @@
-// Reads a venue from its bytes (specs/Held.antt).
-ghost use Rattle.std.specs.Prelude.{◌≡◌, ◌≤◌, length, get_or};
-ghost use Rattle.rules.specs.Words.{no_regular, no_complex, no_legging, not_listed, no_edition, no_generations};
+// A venue held as bytes (specs/Held.antt): read.
+ghost use Rattle.std.specs.Prelude.{◌≡◌, ◌≤◌, length};
 ghost use Rattle.venue_bytes.specs.Held.{venue_size};
 ghost use Rattle.venue_bytes.specs.Held.{regular_from, complex_from, legging_from, listed_from, edition_from, generations_from, venue_from};
-ghost use Rattle.venue_bytes.specs.Requirements.{HeldPlace};
 
 use rules::{Complex, Edition, Generations, Legging, Listed, Regular, Venue};
 
-// Where the complex orders begin.
-pub const COMPLEXES_AT: usize = 14 * 128;
-
-// Where the legging orders begin.
-pub const LEGGINGS_AT: usize = COMPLEXES_AT + 17 * 32;
-
-// Where the series begin.
-pub const SERIES_AT: usize = LEGGINGS_AT + 12 * 16;
-
-// Where the last id stands.
-pub const LAST_AT: usize = SERIES_AT + 9 * 8;
-
 // Where the editions begin.
-pub const EDITIONS_AT: usize = LAST_AT + 4;
+pub const EDITIONS_AT: usize = 2604;
 
 // Where the regular orders' reserves begin.
 pub const RESERVES_AT: usize = EDITIONS_AT + 10 * 32;
@@ -39,7 +25,7 @@ pub const VENUE_SIZE: usize = REACHED_AT + 4;
 
 // A row read ----------------------------------------------------------------------------------
 
-// A regular order, from its row and its reserve's row.
+// A regular order, of its row and its reserve's row.
 fn regular_from(row: &[u8], reserve: &[u8]) -> Regular
     requires { (14 ≤ length row.now) × (8 ≤ length reserve.now) }
     ensures { result ≡ regular_from row.now reserve.now }
@@ -55,7 +41,7 @@ fn regular_from(row: &[u8], reserve: &[u8]) -> Regular
     }
 }
 
-// A complex order, from its row and its ratios' row.
+// A complex order, of its row and its ratios' row.
 fn complex_from(row: &[u8], ratio: &[u8]) -> Complex
     requires { (17 ≤ length row.now) × (2 ≤ length ratio.now) }
     ensures { result ≡ complex_from row.now ratio.now }
@@ -74,7 +60,7 @@ fn complex_from(row: &[u8], ratio: &[u8]) -> Complex
     }
 }
 
-// A legging order, from its row.
+// A legging order, of its row.
 fn legging_from(row: &[u8]) -> Legging
     requires { 12 ≤ length row.now }
     ensures { result ≡ legging_from row.now }
@@ -86,7 +72,7 @@ fn legging_from(row: &[u8]) -> Legging
     }
 }
 
-// A series' status and away prices, from their row.
+// A series' status and away prices, of their row.
 fn listed_from(row: &[u8]) -> Listed
     requires { 9 ≤ length row.now }
     ensures { result ≡ listed_from row.now }
@@ -98,7 +84,7 @@ fn listed_from(row: &[u8]) -> Listed
     }
 }
 
-// An edition, from its row.
+// An edition, of its row.
 fn edition_from(row: &[u8]) -> Edition
     requires { 10 ≤ length row.now }
     ensures { result ≡ edition_from row.now }
@@ -111,7 +97,7 @@ fn edition_from(row: &[u8]) -> Edition
     }
 }
 
-// A series' generations, from their row.
+// A series' generations, of their row.
 fn generations_from(row: &[u8]) -> Generations
     requires { 80 ≤ length row.now }
     ensures { result ≡ generations_from row.now }
@@ -126,64 +112,6 @@ fn generations_from(row: &[u8]) -> Generations
     Generations { messages }
 }
 
-// A place read ---------------------------------------------------------------------------------
-
-// What stands at a regular place.
-pub fn regular_at(bytes: &[u8], i: usize) -> Regular
-    requires { HeldPlace bytes.now i 128 }
-    ensures { result ≡ get_or (venue_from bytes.now).regular i no_regular }
-{
-    let at = 14 * i;
-    let reserve = 8 * i + RESERVES_AT;
-    regular_from(&bytes[at..], &bytes[reserve..])
-}
-
-// What stands at a complex place.
-pub fn complex_at(bytes: &[u8], i: usize) -> Complex
-    requires { HeldPlace bytes.now i 32 }
-    ensures { result ≡ get_or (venue_from bytes.now).complex i no_complex }
-{
-    let at = 17 * i + COMPLEXES_AT;
-    let ratio = 2 * i + RATIOS_AT;
-    complex_from(&bytes[at..], &bytes[ratio..])
-}
-
-// What stands at a legging place.
-pub fn legging_at(bytes: &[u8], i: usize) -> Legging
-    requires { HeldPlace bytes.now i 16 }
-    ensures { result ≡ get_or (venue_from bytes.now).legging i no_legging }
-{
-    let at = 12 * i + LEGGINGS_AT;
-    legging_from(&bytes[at..])
-}
-
-// A series' status and away prices.
-pub fn listed_at(bytes: &[u8], i: usize) -> Listed
-    requires { HeldPlace bytes.now i 8 }
-    ensures { result ≡ get_or (venue_from bytes.now).series i not_listed }
-{
-    let at = 9 * i + SERIES_AT;
-    listed_from(&bytes[at..])
-}
-
-// What stands at a place of the editions.
-pub fn edition_at(bytes: &[u8], i: usize) -> Edition
-    requires { HeldPlace bytes.now i 32 }
-    ensures { result ≡ get_or (venue_from bytes.now).editions i no_edition }
-{
-    let at = 10 * i + EDITIONS_AT;
-    edition_from(&bytes[at..])
-}
-
-// A series' generations.
-pub fn generations_at(bytes: &[u8], i: usize) -> Generations
-    requires { HeldPlace bytes.now i 8 }
-    ensures { result ≡ get_or (venue_from bytes.now).generations i no_generations }
-{
-    let at = 80 * i + GENERATIONS_AT;
-    generations_from(&bytes[at..])
-}
-
 // The venue read, table by table --------------------------------------------------------------
 
 // The regular orders that the bytes hold.
@@ -195,7 +123,9 @@ fn regulars_from(bytes: &[u8]) -> [Regular; 128]
     let mut r = [free; 128];
     let mut i: usize = 0;
     while i < 128 {
-        let x = regular_at(bytes, i);
+        let at = 14 * i;
+        let reserve = 8 * i + RESERVES_AT;
+        let x = regular_from(&bytes[at..], &bytes[reserve..]);
         r[i] = x;
         i += 1;
     }
@@ -211,7 +141,9 @@ fn complexes_from(bytes: &[u8]) -> [Complex; 32]
     let mut r = [free; 32];
     let mut i: usize = 0;
     while i < 32 {
-        let x = complex_at(bytes, i);
+        let at = 17 * i + 1792;
+        let ratio = 2 * i + RATIOS_AT;
+        let x = complex_from(&bytes[at..], &bytes[ratio..]);
         r[i] = x;
         i += 1;
     }
@@ -227,7 +159,8 @@ fn leggings_from(bytes: &[u8]) -> [Legging; 16]
     let mut r = [free; 16];
     let mut i: usize = 0;
     while i < 16 {
-        let x = legging_at(bytes, i);
+        let at = 12 * i + 2336;
+        let x = legging_from(&bytes[at..]);
         r[i] = x;
         i += 1;
     }
@@ -243,7 +176,8 @@ fn series_from(bytes: &[u8]) -> [Listed; 8]
     let mut r = [free; 8];
     let mut i: usize = 0;
     while i < 8 {
-        let x = listed_at(bytes, i);
+        let at = 9 * i + 2528;
+        let x = listed_from(&bytes[at..]);
         r[i] = x;
         i += 1;
     }
@@ -259,7 +193,8 @@ fn editions_from(bytes: &[u8]) -> [Edition; 32]
     let mut r = [free; 32];
     let mut i: usize = 0;
     while i < 32 {
-        let x = edition_at(bytes, i);
+        let at = 10 * i + EDITIONS_AT;
+        let x = edition_from(&bytes[at..]);
         r[i] = x;
         i += 1;
     }
@@ -275,7 +210,8 @@ fn all_generations_from(bytes: &[u8]) -> [Generations; 8]
     let mut r = [none; 8];
     let mut i: usize = 0;
     while i < 8 {
-        let x = generations_at(bytes, i);
+        let at = 80 * i + GENERATIONS_AT;
+        let x = generations_from(&bytes[at..]);
         r[i] = x;
         i += 1;
     }
@@ -291,7 +227,7 @@ pub fn venue_from(bytes: &[u8]) -> Venue
     let complex = complexes_from(bytes);
     let legging = leggings_from(bytes);
     let series = series_from(bytes);
-    let last = wire::word_at(bytes, LAST_AT);
+    let last = wire::word_at(bytes, 2600);
     let editions = editions_from(bytes);
     let generations = all_generations_from(bytes);
     let reached = wire::word_at(bytes, REACHED_AT);

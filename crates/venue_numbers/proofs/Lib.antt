@@ -1,2 +1,3 @@
-pub mod Counted
+pub mod Loaded
+pub mod GenerationsLoaded
 pub mod FreshNumbers

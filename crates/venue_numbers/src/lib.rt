@@ -1,15 +1,17 @@
-// The numbers of a fresh venue (places' specs/Layout.antt); and what the numbers keep beside a venue, computed.
+// A venue held by value, and the fresh one, laid out as the numbers of a slice (places' specs/Layout.antt).
 ghost use Rattle.std.specs.Prelude.{◌≡◌, length};
-ghost use Rattle.rules.specs.Words.{fresh_venue};
+ghost use Rattle.rules.specs.Words.{fresh_venue, with_legging, with_series, with_generations, with_reached};
 ghost use Rattle.rules.specs.Step.{mask};
 ghost use Rattle.places.specs.Layout.{size, venue_of, bit_of};
-ghost use Rattle.places.specs.Layout.{BesideCounted, Loaded};
+ghost use Rattle.places.specs.Layout.{SameCounts};
+ghost use Rattle.places.specs.Layout.{RegularsLoaded, ComplexesLoaded, EditionsLoaded, BesideCounted, Laid, Loaded};
+ghost use Rattle.places.specs.Requirements.{LoadReady, RegularsLoadReady, ComplexesLoadReady};
 
-use rules::Legging;
+use rules::{Complex, Edition, Generations, Legging, Listed, Regular, Venue};
 
 // A fresh venue -------------------------------------------------------------------------------
 
-// A fresh venue's numbers: zeros, except that every series is open and the figures are those of edition 0.
+// A fresh venue's numbers: zeros, but that every series is open and the figures are those of edition 0.
 pub fn fresh_numbers() -> [u32; places::SIZE]
     ensures { Loaded fresh_venue result }
 {
@@ -23,7 +25,98 @@ pub fn fresh_numbers() -> [u32; places::SIZE]
     numbers
 }
 
-// What is kept beside a venue -----------------------------------------------------------------
+// A venue's numbers, part by part -------------------------------------------------------------
+
+// Places are read until the first free one.
+fn load_regulars(numbers: &mut [u32], l: [Regular; 128])
+    requires { RegularsLoadReady numbers.old l }
+    ensures { RegularsLoaded numbers.old l numbers.new }
+{
+    let mut i: usize = 0;
+    while i < 128 {
+        let o = l[i];
+        if o.quantity == 0 {
+            numbers[places::REGULARS_USED_AT] = i as u32;
+            return;
+        }
+        place_writes::write_regular(numbers, i, o);
+        i += 1;
+    }
+    numbers[places::REGULARS_USED_AT] = 128;
+}
+
+// Places are read until the first free one.
+fn load_complexes(numbers: &mut [u32], l: [Complex; 32])
+    requires { ComplexesLoadReady numbers.old l }
+    ensures { ComplexesLoaded numbers.old l numbers.new }
+{
+    let mut i: usize = 0;
+    while i < 32 {
+        let o = l[i];
+        if o.quantity == 0 {
+            numbers[places::COMPLEXES_USED_AT] = i as u32;
+            return;
+        }
+        place_writes::write_complex(numbers, i, o);
+        i += 1;
+    }
+    numbers[places::COMPLEXES_USED_AT] = 32;
+}
+
+// The legging orders written among the numbers.
+fn load_leggings(numbers: &mut [u32], l: [Legging; 16])
+    requires { length numbers.old ≡ size }
+    ensures numbers_after { venue_of numbers.new ≡ with_legging (venue_of numbers.old) l }
+    ensures counts { SameCounts numbers.old numbers.new }
+{
+    let mut i: usize = 0;
+    while i < 16 {
+        let x = l[i];
+        place_writes::put_legging(numbers, i, x);
+        i += 1;
+    }
+}
+
+// The status and away prices of every series written among the numbers.
+fn load_series(numbers: &mut [u32], l: [Listed; 8])
+    requires { length numbers.old ≡ size }
+    ensures numbers_after { venue_of numbers.new ≡ with_series (venue_of numbers.old) l }
+    ensures counts { SameCounts numbers.old numbers.new }
+{
+    let mut i: usize = 0;
+    while i < 8 {
+        let x = l[i];
+        place_writes::put_listed(numbers, i, x);
+        i += 1;
+    }
+}
+
+// The editions written among the numbers.
+fn load_editions(numbers: &mut [u32], l: [Edition; 32])
+    requires { length numbers.old ≡ size }
+    ensures { EditionsLoaded numbers.old l numbers.new }
+{
+    let mut i: usize = 0;
+    while i < 32 {
+        let x = l[i];
+        place_writes::write_edition(numbers, i, x);
+        i += 1;
+    }
+}
+
+// The generations of each series, and the last id that a limited sweep looked at.
+fn load_traffic(numbers: &mut [u32], l: [Generations; 8], reached: u32)
+    requires { length numbers.old ≡ size }
+    ensures { venue_of numbers.new ≡ with_reached (with_generations (venue_of numbers.old) l) reached }
+{
+    let mut i: usize = 0;
+    while i < 8 {
+        let x = l[i];
+        place_writes::put_generations(numbers, i, x);
+        i += 1;
+    }
+    place_writes::put_reached(numbers, reached);
+}
 
 // 1 where a legging place is filled, 0 where it is free.
 fn bit(l: Legging) -> u16
@@ -35,7 +128,7 @@ fn bit(l: Legging) -> u16
     1
 }
 
-// Computes the mask of the legging places.
+// The mask of the legging places, counted.
 fn count_mask(numbers: &[u32]) -> u16
     requires { length numbers.now ≡ size }
     ensures { result ≡ mask (venue_of numbers.now).legging }
@@ -50,8 +143,8 @@ fn count_mask(numbers: &[u32]) -> u16
     m
 }
 
-// Writes what is kept beside the venue, except the levels: no place is known to be held, mask and figures are computed, and the show-again flag is 0.
-pub fn count_beside(numbers: &mut [u32])
+// What is kept beside the venue, but for the levels: no place is known to be held, mask and figures are counted, and there is no mark.
+fn count_beside(numbers: &mut [u32])
     requires { length numbers.old ≡ size }
     ensures { BesideCounted numbers.old numbers.new }
 {
@@ -61,4 +154,25 @@ pub fn count_beside(numbers: &mut [u32])
     numbers[places::COMPLEXES_KNOWN_AT] = 0;
     numbers[places::LEGGING_MASK_AT] = mask as u32;
     numbers[places::SHOW_AGAIN_AT] = 0;
+}
+
+// A venue's numbers, and what is kept beside them; the levels stay as they are.
+pub fn load(numbers: &mut [u32], v: Venue)
+    requires { LoadReady numbers.old v }
+    ensures { Laid v numbers.new }
+{
+    let generations = v.generations;
+    load_traffic(numbers, generations, v.reached);
+    let regular = v.regular;
+    load_regulars(numbers, regular);
+    let complex = v.complex;
+    load_complexes(numbers, complex);
+    let legging = v.legging;
+    load_leggings(numbers, legging);
+    let series = v.series;
+    load_series(numbers, series);
+    let editions = v.editions;
+    load_editions(numbers, editions);
+    place_writes::put_last(numbers, v.last);
+    count_beside(numbers);
 }

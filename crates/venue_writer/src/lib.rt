@@ -1,7 +1,7 @@
-// Writes a venue as bytes (venue_bytes' specs/Held.antt).
+// A venue written as bytes (venue_bytes' specs/Held.antt).
 ghost use Rattle.std.specs.Prelude.{◌≡◌, ◌+◌, ◌≤◌, length};
 ghost use Rattle.records.specs.Seen.{seen, pasted, ◌plus◌};
-ghost use Rattle.venue_bytes.specs.Held.{editions_at, reserves_at, ratios_at, generations_at, venue_size, venue_from};
+ghost use Rattle.venue_bytes.specs.Held.{editions_at, reserves_at, ratios_at, generations_at, venue_size};
 ghost use Rattle.venue_bytes.specs.Held.{regular_bytes, complex_bytes, legging_bytes, listed_bytes, edition_bytes, reserve_bytes, ratio_bytes, generations_bytes, rows, venue_bytes};
 
 use rules::{Complex, Edition, Generations, Legging, Listed, Regular, Venue};
@@ -9,7 +9,7 @@ use rules::{Complex, Edition, Generations, Legging, Listed, Regular, Venue};
 // A row written -------------------------------------------------------------------------------
 
 // A regular order's row.
-pub fn put_regular(out: &mut [u8], at: usize, o: Regular)
+fn put_regular(out: &mut [u8], at: usize, o: Regular)
     ensures { out.new ≡ (seen out.old at plus regular_bytes o).memory }
 {
     let i = records::bytes4(o.id);
@@ -19,7 +19,7 @@ pub fn put_regular(out: &mut [u8], at: usize, o: Regular)
 }
 
 // The row of a regular order's reserve.
-pub fn put_reserve(out: &mut [u8], at: usize, o: Regular)
+fn put_reserve(out: &mut [u8], at: usize, o: Regular)
     ensures { out.new ≡ (seen out.old at plus reserve_bytes o).memory }
 {
     let head = records::bytes4(o.reserve);
@@ -28,7 +28,7 @@ pub fn put_reserve(out: &mut [u8], at: usize, o: Regular)
 }
 
 // A complex order's row.
-pub fn put_complex(out: &mut [u8], at: usize, c: Complex)
+fn put_complex(out: &mut [u8], at: usize, c: Complex)
     ensures { out.new ≡ (seen out.old at plus complex_bytes c).memory }
 {
     let i = records::bytes4(c.id);
@@ -40,7 +40,7 @@ pub fn put_complex(out: &mut [u8], at: usize, c: Complex)
 }
 
 // The row of a complex order's ratios.
-pub fn put_ratio(out: &mut [u8], at: usize, c: Complex)
+fn put_ratio(out: &mut [u8], at: usize, c: Complex)
     ensures { out.new ≡ (seen out.old at plus ratio_bytes c).memory }
 {
     let row = [c.ratio1, c.ratio2];
@@ -48,7 +48,7 @@ pub fn put_ratio(out: &mut [u8], at: usize, c: Complex)
 }
 
 // A legging order's row.
-pub fn put_legging(out: &mut [u8], at: usize, l: Legging)
+fn put_legging(out: &mut [u8], at: usize, l: Legging)
     ensures { out.new ≡ (seen out.old at plus legging_bytes l).memory }
 {
     let head = records::bytes4(l.parent);
@@ -57,7 +57,7 @@ pub fn put_legging(out: &mut [u8], at: usize, l: Legging)
 }
 
 // The row of a series' status and away prices.
-pub fn put_listed(out: &mut [u8], at: usize, x: Listed)
+fn put_listed(out: &mut [u8], at: usize, x: Listed)
     ensures { out.new ≡ (seen out.old at plus listed_bytes x).memory }
 {
     let head = [x.status];
@@ -66,7 +66,7 @@ pub fn put_listed(out: &mut [u8], at: usize, x: Listed)
 }
 
 // An edition's row.
-pub fn put_edition(out: &mut [u8], at: usize, x: Edition)
+fn put_edition(out: &mut [u8], at: usize, x: Edition)
     ensures { out.new ≡ (seen out.old at plus edition_bytes x).memory }
 {
     let e = records::bytes4(x.edition);
@@ -197,7 +197,7 @@ fn put_all_generations(out: &mut [u8], l: [Generations; 8])
     }
 }
 
-// Writes the venue's bytes over what was there.
+// The venue's bytes in the place of what stood there.
 pub fn put_venue(out: &mut [u8], v: Venue)
     requires { length out.old ≡ venue_size }
     ensures { out.new ≡ venue_bytes v }
@@ -222,13 +222,4 @@ pub fn put_venue(out: &mut [u8], v: Venue)
     put_all_generations(out, generations);
     let reached = records::bytes4(v.reached);
     records::put(out, venue_bytes::REACHED_AT, &reached);
-}
-
-// The bytes of a venue by value. Reading the bytes gives the venue back.
-pub fn bytes_of(v: Venue) -> [u8; venue_bytes::VENUE_SIZE]
-    ensures { (length result ≡ venue_size) × (venue_from result ≡ v) }
-{
-    let mut bytes = [0u8; venue_bytes::VENUE_SIZE];
-    put_venue(&mut bytes, v);
-    bytes
 }

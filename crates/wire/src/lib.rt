@@ -1,4 +1,4 @@
-// Reads little-endian numbers and the fields of messages, and checks the fields' ranges.
+// Bytes in: little-endian numbers, the fields of messages, and their ranges.
 ghost use Rattle.std.specs.Prelude.{◌≡◌, not, ◌&&◌, ◌+◌, ◌-◌, ◌≤◌, ◌<◌, eqb, length};
 ghost use Rattle.rules.specs.Words.{within, is_series, is_side, is_status, is_away, is_limit};
 ghost use Rattle.rules.specs.Settings.{is_increment};
@@ -17,14 +17,14 @@ fn wide16(x: u8) -> u16
     x as u16
 }
 
-// A number of 16 bits as a number of 32 bits.
+// A number of 16 bits as one of 32.
 fn wide32(x: u16) -> u32
     ensures { (result ≡ x) × (result < 65536) }
 {
     x as u32
 }
 
-// The byte at a position; a byte past the end of `s` is read as 0.
+// The number at a position, little-endian. A byte past the end of `s` is read as 0.
 pub fn u8_at(s: &[u8], at: usize) -> u8
     ensures { result ≡ u8_at s.now at }
 {
@@ -55,7 +55,7 @@ pub fn u32_at(s: &[u8], at: usize) -> u32
     low + 65536 * high
 }
 
-// The signed number whose 32 bits, in two's complement, are `x`.
+// The as_signed number whose 32 bits, in two's complement, are `x`.
 pub fn as_signed(x: u32) -> i32
     ensures { result ≡ as_signed x }
 {
@@ -66,7 +66,7 @@ pub fn as_signed(x: u32) -> i32
     -1 - back
 }
 
-// The byte at a position that `s` has. This and the next two functions do not test the length.
+// The same numbers where the bytes are long enough to have them, with no test of the length.
 pub fn byte_at(s: &[u8], at: usize) -> u8
     requires { at < length s.now }
     ensures { result ≡ u8_at s.now at }
@@ -96,7 +96,7 @@ pub fn word_at(s: &[u8], at: usize) -> u32
 
 // A message -----------------------------------------------------------------------------------
 
-// A limit is from -far to far.
+// A limit goes as far as `far` on both sides of 0.
 fn is_limit(far: u32, n: i32) -> bool
     ensures { result ≡ is_limit far n }
 {
@@ -108,7 +108,7 @@ fn is_limit(far: u32, n: i32) -> bool
     x <= top
 }
 
-// An order's fields are in their ranges. That its price is a multiple of the increment in force depends on the venue, and is tested elsewhere.
+// An order's fields are in their ranges; that its price is a multiple of the increment in force is asked of the venue.
 pub fn regular_in_range(o: Regular) -> bool
     ensures { result ≡ regular_in_range o }
 {
@@ -152,7 +152,7 @@ fn legs_in_range(c: Complex) -> bool
     c.series1 != c.series2
 }
 
-// A complex order's fields are in their ranges, its limit from -far to far.
+// A complex order's fields are in their ranges, its limit as far as `far`.
 pub fn two_leg_in_range(far: u32, c: Complex) -> bool
     ensures { result ≡ two_leg_in_range far c }
 {
@@ -177,7 +177,7 @@ pub fn two_leg_in_range(far: u32, c: Complex) -> bool
     arithmetic::is_ratio(c.ratio2)
 }
 
-// A complex order may rest: it is in range for kind 2, or for kind 10 with ratios that differ.
+// A complex order may rest: one of kind 2, or one of kind 10 whose ratios differ.
 pub fn complex_in_range(c: Complex) -> bool
     ensures { result ≡ complex_in_range c }
 {
@@ -251,7 +251,7 @@ pub fn order_at(s: &[u8], display: u32) -> Regular
     }
 }
 
-// The complex order at the front of `s`, with these ratios.
+// The complex order at the front of `s`, of these ratios.
 pub fn two_leg_at(s: &[u8], ratio1: u8, ratio2: u8) -> Complex
     requires { 21 ≤ length s.now }
     ensures { result ≡ two_leg_at s.now ratio1 ratio2 }

@@ -1,5 +1,5 @@
 -- A longer list of calls, for what Witness's has not: editions, of which the percentage alone keeps legging orders in band; a ceiling that is reached; kinds 9
--- and 10 beside legging orders that stand, of which a hit on one pairs with an order of kind 9; and kind 11, with all that LimitedSweeps needs. Given by
+-- and 10 beside legging orders that stand, of which a hit on one pairs with an order of kind 9; and kind 11, with all that LimitedSweeps asks. Given by
 -- computation.
 use Rattle.std.specs.Prelude.{false, true, ◌≡◌, List, [], ◌∷◌, ℕ, pos}
 use Rattle.rules.specs.declared.Cause.TheVariants.{Executed}
@@ -97,7 +97,7 @@ pub record Longer : Type 0 where
   pub reserve_account : regular_sums 8 1 evening ≡ 3 ∷ 0 ∷ 9 ∷ []
   pub unequal_accepted : Accepted evening (units 13 0 2 1 (pos 300) 3)
   pub unequal_account : complex_sums 13 evening ≡ 0 ∷ 0 ∷ 0 ∷ 0 ∷ 0 ∷ 3 ∷ []
-  -- What LimitedSweeps needs, of the venue at noon: it is sound, and a kind 11 limited to 7 is accepted, which looks at these
+  -- What LimitedSweeps asks, of the venue at noon: it is sound, and a kind 11 limited to 7 is accepted, which looks at these
   pub sound : SoundAt 24 noon.venue
   pub limited : message_of (encode_message (LimitedSweep 7)) ≡ LimitedSweep 7
   pub taken : refusal noon.venue (encode_message (LimitedSweep 7)) ≡ 0

@@ -1,5 +1,5 @@
-// How a complex order is worked: it crosses, touches, and legs in.
-// A contract says in one equation: the venue left and all that is written are those of the definition.
+// How a complex order is worked: crossed, touched, and legged in, a unit at a time.
+// Each function says in one equation the venue that it leaves and all that it writes: those of its definition.
 ghost use Rattle.std.specs.Prelude.{◌≡◌, ◌*◌, ◌/◌};
 ghost use Rattle.rules.specs.declared.Venue.{Venue};
 ghost use Rattle.rules.specs.Effects.{repeat};
@@ -15,7 +15,7 @@ ghost use Rattle.places.specs.Requirements.{RightComplex};
 use levels::TakenLevels;
 use rules::Complex;
 
-// The net of a and p, the best regular prices that c would take, is at most its limit and in band.
+// The best regular prices a and p that c would take net to its limit or less, and that net is in band.
 fn can_leg_in(numbers: &[u32], taken: TakenLevels, c: Complex, a: u32, p: u32) -> bool
     requires { TakenFigured numbers.now taken c }
     ensures { result ≡ legs_in (venue_of numbers.now) c a p }
@@ -44,7 +44,7 @@ fn contracts(ratio: u8, k: u32) -> u64
     (ratio as u64) * (k as u64)
 }
 
-// The order at place i legs in for k units at prices a and p: the first leg's trades, the second leg's, then the pair.
+// k units of the order at place i, at prices a and p: the first leg's trades, the second's, the pair.
 pub fn leg_in(
     numbers: &mut [u32],
     i: usize,
@@ -67,7 +67,7 @@ pub fn leg_in(
     trades::pair_off(numbers, i, c.id, net, k, out, second)
 }
 
-// How many units of `ratio` contracts a size fills; 0 where `ratio` is 0.
+// The units that a size fills, each of `ratio` contracts; none where that is 0.
 fn units(n: u64, ratio: u8) -> u64
     ensures { result ≡ n / ratio }
 {
@@ -80,7 +80,7 @@ fn units(n: u64, ratio: u8) -> u64
     n / (ratio as u64)
 }
 
-// As many units as c has open and the sizes at the best prices fill; `taken` has the levels of these prices.
+// As many units as c has open and the sizes at the best prices fill; taken has their levels.
 fn units_in(taken: TakenLevels, c: Complex) -> u32
     ensures { (v : Venue) → TakenOf taken c v.regular → result ≡ units_in v c }
 {
@@ -116,7 +116,7 @@ pub fn leg_in_all(numbers: &mut [u32], i: usize, quantity: u32, out: &mut [u8], 
     pos
 }
 
-// The order at place i crosses, touches and legs in, if neither of its series is closed. At a free place the function does nothing.
+// The order at place i crosses, touches and legs in, if neither of its series is closed. At a free place nothing is done.
 pub fn work(numbers: &mut [u32], i: usize, out: &mut [u8], at: usize) -> usize
     requires { RightComplex numbers.old i }
     ensures result_after { stage (venue_of numbers.new) out.new result ≡ seen out.old at does complex.work i (venue_of numbers.old) }

@@ -1,4 +1,4 @@
-//! The one-message call: each message of a session on the venue before it.
+//! The one-message call: each message of a session upon the venue before it.
 
 use crate::clock::Clock;
 use crate::layers::{Case, Layer};
@@ -14,7 +14,7 @@ use std::hint::black_box;
 
 pub const ROOM: usize = MOST_BYTES;
 
-/// Calls timed together; the engine's are each on a copy of the venue, made
+/// Calls timed together; the engine's are each upon a copy of the venue, made
 /// beforehand.
 const CALLS: usize = 8;
 
@@ -36,7 +36,7 @@ impl Call {
         }
     }
 
-    /// Both must leave the same report and venue; returns the venue.
+    /// Both must leave the same report and venue; tells the venue.
     fn agreed(&self) -> Result<Venue, String> {
         let mut expected = vec![0xC3; ROOM];
         let returned =

@@ -20,7 +20,7 @@ fn now() -> f64 {
         seconds: 0,
         nanoseconds: 0,
     };
-    // SAFETY: the call writes one timespec, of x86-64 Linux, to the address that it gets.
+    // SAFETY: the call writes one timespec, of x86-64 Linux, where it is told to.
     let failed = unsafe { clock_gettime(THREAD_CPU_TIME, &mut time) };
     assert_eq!(failed, 0, "this system has no clock of a thread's time");
     time.seconds as f64 * 1e9 + time.nanoseconds as f64

@@ -1,9 +1,8 @@
 //! The feed of two whole lines beside the run of the list that came over them.
 
-use crate::beside::{Beside, Contest};
 use crate::clock::Clock;
-use crate::race::room_of;
-use crate::table::header;
+use crate::race::{room_of, Both, Times};
+use crate::table::{header, number, pair, ratio, row};
 use crate::Options;
 use sessions::line::{line_bytes, numbered};
 use sessions::profile::Profile;
@@ -41,29 +40,26 @@ impl Session {
     }
 }
 
+/// The times of the engine's run and feed, and of the reference's feed.
+#[derive(Clone, Default)]
+struct Three {
+    run: Times,
+    feed: Both<Times>,
+}
+
 struct Track {
     clock: Clock,
     report: Vec<u8>,
 }
 
 impl Track {
-    fn each(&mut self, sessions: &[Session], work: fn(&Session, &mut [u8])) -> f64 {
-        let times = sessions.iter().map(|session| {
-            let report = &mut self.report[..session.room];
-            self.clock.time(|| work(session, report))
-        });
-        times.sum()
-    }
-}
-
-impl Contest<Session> for Track {
     fn run(&mut self, sessions: &[Session]) -> f64 {
         self.each(sessions, |session, report| {
             let _ = black_box(legging::run(black_box(&session.list), report));
         })
     }
 
-    fn engine(&mut self, sessions: &[Session]) -> f64 {
+    fn feed(&mut self, sessions: &[Session]) -> f64 {
         self.each(sessions, |session, report| {
             let [main, spare] = black_box(&session.lines);
             let _ = black_box(legging::feed(main, spare, report));
@@ -75,6 +71,27 @@ impl Contest<Session> for Track {
             let [main, spare] = black_box(&session.lines);
             black_box(reference::feed(main, spare, report));
         })
+    }
+
+    fn each(&mut self, sessions: &[Session], work: fn(&Session, &mut [u8])) -> f64 {
+        let times = sessions.iter().map(|session| {
+            let report = &mut self.report[..session.room];
+            self.clock.time(|| work(session, report))
+        });
+        times.sum()
+    }
+
+    /// All three; who is first changes from round to round.
+    fn race(&mut self, sessions: &[Session], round: usize, times: &mut Three) {
+        if round.is_multiple_of(2) {
+            times.run.add(self.run(sessions));
+        }
+        let engine = self.feed(sessions);
+        if !round.is_multiple_of(2) {
+            times.run.add(self.run(sessions));
+        }
+        let reference = self.reference(sessions);
+        times.feed.add(Both { engine, reference });
     }
 }
 
@@ -96,6 +113,22 @@ impl Group {
             sessions,
         })
     }
+
+    /// Its row: ns for each message.
+    fn told(&self, times: &Three) -> String {
+        let run = times.run.each(0.0, self.messages);
+        let feed = times.feed.each(&Both::default(), self.messages);
+        let (least, median) = (feed.least(), feed.median());
+        row(&[
+            self.profile.name().to_string(),
+            number(self.messages as f64),
+            pair(run.least(), run.median()),
+            pair(least.engine, median.engine),
+            format!("{:.2}", least.engine / run.least()),
+            pair(least.reference, median.reference),
+            ratio(&least),
+        ])
+    }
 }
 
 /// Whole sessions over two lines.
@@ -108,7 +141,7 @@ pub fn profiles(options: &Options) -> Result<String, String> {
         clock: Clock::new(),
         report: vec![0; most],
     };
-    let mut times = vec![Beside::default(); groups.len()];
+    let mut times = vec![Three::default(); groups.len()];
     for round in 0..options.rounds {
         for (group, times) in groups.iter().zip(&mut times) {
             track.race(&group.sessions, round, times);
@@ -124,7 +157,7 @@ pub fn profiles(options: &Options) -> Result<String, String> {
         "ratio",
     ]);
     for (group, times) in groups.iter().zip(&times) {
-        table += &times.row(group.profile, group.messages);
+        table += &group.told(times);
     }
     Ok(table)
 }

@@ -116,7 +116,7 @@ impl Layer {
     }
 }
 
-/// A layer on a book of some regular orders.
+/// A layer upon a book of some regular orders.
 pub struct Case {
     pub prefix: Vec<u8>,
     /// The prefix and then what is between the units.
@@ -139,7 +139,7 @@ const CEILING_MESSAGES: usize = 256;
 const REFUSED: [u8; 4] = [4, 0, 99, 0];
 
 impl Case {
-    /// On `book` regular orders, an arriving one counted among them.
+    /// Upon `book` regular orders, an arriving one counted among them.
     pub fn new(layer: Layer, book: usize, units: usize) -> Self {
         let mut script = Script::default();
         script.open(layer);

@@ -12,12 +12,8 @@ pub const LAST_KIND: u16 = 11;
 
 /// The messages of the generator's own session, of kinds up to `kinds`.
 pub fn session(profile: Profile, seed: u64, kinds: u16) -> Vec<Vec<u8>> {
-    session_of(profile, seed, kinds, session_length(profile, seed))
-}
-
-/// The same, with so many messages.
-pub fn session_of(profile: Profile, seed: u64, kinds: u16, messages: usize) -> Vec<Vec<u8>> {
-    drawn(Generator::new(profile, seed).up_to(kinds), messages)
+    let generator = Generator::new(profile, seed).up_to(kinds);
+    drawn(generator, session_length(profile, seed))
 }
 
 /// A session that takes back what it leaves, so that another can follow.

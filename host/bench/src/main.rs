@@ -1,11 +1,9 @@
 //! `bench`: the engine timed beside the reference, on the same bytes in one
 //! process. Tables go to standard output as Markdown.
 
-mod beside;
 mod calls;
 mod clock;
 mod feeds;
-mod held;
 mod layers;
 mod lists;
 mod machine;
@@ -24,15 +22,15 @@ use std::cell::RefCell;
 use std::process::ExitCode;
 
 const HELP: &str = "\
-bench: times the engine beside the reference, in ns
+bench: the engine timed beside the reference, in ns
 
   bench [TABLE ...] [--rounds N] [--seeds N] [--sessions N] [--only NAME] [--kinds N] [--quick]
   bench spin NAME [--book N] [--times N] [--who engine|reference]
 
-Tables: profiles, blocks, growing, books, layers, feeds, held, calls, call-layers, turns,
-sets; without a name, all of them.
-Each cell has the least and the median of the rounds (default 15). The ratio is
-reference / engine of the least times: above 1 the engine is faster.
+Tables: profiles, blocks, growing, books, layers, feeds, calls, call-layers, turns, sets;
+all of them where none is named.
+Each cell is the least and the median of the rounds (default 15), the ratio is
+reference / engine of the least: above 1 the engine is faster.
 
   profiles   the generator's sessions of seeds 0 to N-1 (default 40), each one run
   blocks     the same lists in blocks of 16 messages: the least time of the run over
@@ -43,30 +41,24 @@ reference / engine of the least times: above 1 the engine is faster.
              a prefix and 1,000 units, less the run without the units, by 1,000
   feeds      the sessions of `profiles` over two whole lines, each one feed, beside the
              engine's own run of the list
-  held       sessions of 500 messages of the same seeds, in lists of 100: each list one run
-             on the venue that the last one left, beside the engine's own run of all 500
-             from a fresh venue. The column held venue / run is by the least times: below 1
-             the runs on a held venue are faster
-  calls      each message of the generator's sessions as a one-message call on the venue
-             before it, with report memory that holds any message's records: eight calls
-             are timed together, least of the rounds for each message
+  calls      each message of the generator's sessions as a one-message call upon the
+             venue before it, with report memory that holds any message's records: eight
+             calls are timed together, least of the rounds for each message
   call-layers  the messages of a unit as such calls
-  turns      the messages of `calls` that can wait, each as an arrival and as a turn on
+  turns      the messages of `calls` that can wait, each as an arrival and as a turn upon
              four copies of its venue behind one line, beside the engine's own call
-  sets       the set of a venue written into memory for the longest set, and read: of a
-             fresh venue, books of 8, 32 and 128 orders and a full venue; eight calls are
-             timed together, in four times as many rounds. The last columns: the engine's
-             reading by the set's bytes, and the time beyond that of the fresh venue's set
-             by the bytes beyond it
+  sets       the set of a venue written into memory for the longest, and read: of a fresh
+             venue, books of 8, 32 and 128 orders and a full venue; eight calls are timed
+             together, in four times as many rounds. The last columns: the engine's reading
+             by the set's bytes, and what is beyond the fresh one by the bytes beyond it
 
---only keeps the profiles and layers of that name. With --kinds 10 sessions have no kind
-above 10: they are those drawn before these kinds came, for an engine of that time.
---quick is 5 rounds, 10 seeds and 200 sessions. Times are processor times of the thread.
-Both contenders run in turn, each first in every other round, with report memory of 16,384
-bytes more than the records. Before bench times anything, it checks that their reports are
-equal.
+--only keeps the profiles and layers of that name. With --kinds 10 sessions have none of
+the kinds above 10: they are those drawn before these came, for an engine of that time.
+--quick is 5 rounds, 10 seeds and 200 sessions. Times are processor times of the thread. Both contenders run in turn,
+each first in every other round, upon report memory with 16,384 bytes more than the
+records; before anything is timed, their reports must be equal.
 
-On a terminal, one line on standard error shows the row that is timed.
+The row that is timed stands in one line on standard error, where that is a terminal.
 `bench spin` repeats the run of a profile (seed 0) or layer, for a profiler.
 ";
 
@@ -199,11 +191,6 @@ const TABLES: &[(&str, &str, Make)] = &[
         "feeds",
         "Feed of two whole lines, ns for a message: whole sessions",
         feeds::profiles,
-    ),
-    (
-        "held",
-        "Run on a held venue, ns for a message: lists of 100 messages",
-        held::profiles,
     ),
     (
         "calls",

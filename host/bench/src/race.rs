@@ -1,4 +1,4 @@
-//! Engine and reference timed in turn, on the same bytes.
+//! Engine and reference timed in turn, upon the same bytes.
 
 use crate::clock::Clock;
 use std::hint::black_box;
@@ -196,7 +196,7 @@ impl Track {
     }
     /// The times of groups of lists, each group's lists one after another. A round
     /// goes over all groups, so that what disturbs the machine for a while does
-    /// not disturb one of them alone.
+    /// not fall upon one of them.
     pub fn race_groups(&mut self, groups: &[Vec<List>], rounds: usize) -> Vec<Both<Times>> {
         let mut times = vec![Both::<Times>::default(); groups.len()];
         for round in 0..rounds {

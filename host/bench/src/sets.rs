@@ -1,4 +1,4 @@
-//! Sets: a venue and its message number written as records and read back, of venues
+//! Sets: a venue and its message number written as records and read back, upon venues
 //! from fresh to full.
 
 use crate::clock::Clock;
@@ -17,7 +17,7 @@ use std::hint::black_box;
 /// Calls timed together.
 const CALLS: usize = 8;
 
-/// A venue in both forms, how many messages were done on it, and its set.
+/// A venue in both forms, how many messages were done upon it, and its set.
 struct Carried {
     name: String,
     venue: Venue,
@@ -64,7 +64,7 @@ impl Carried {
     }
 }
 
-/// What all calls share: the clock, and the memory that they write.
+/// What all calls share: the clock, and the memory that they are lent.
 struct Track {
     clock: Clock,
     set: Vec<u8>,

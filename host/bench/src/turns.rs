@@ -1,4 +1,4 @@
-//! The turn and the arrival beside the one-message call: each message of a session on
+//! The turn and the arrival beside the one-message call: each message of a session upon
 //! a layer whose four venues are all the one before it.
 
 use crate::calls::{calls_of, mean, Call, Track, ROOM};
@@ -10,7 +10,7 @@ use reference::{Lane, Layer, MOST_MESSAGE};
 use sessions::held_layer::{from_bytes, to_bytes};
 use std::hint::black_box;
 
-/// Turns timed together, each on a copy of the layer made beforehand.
+/// Turns timed together, each upon a copy of the layer made beforehand.
 const TURNS: usize = 2;
 
 /// A message's call, and the layer before it: with nothing waiting, and with the message

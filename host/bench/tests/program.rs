@@ -26,7 +26,6 @@ fn every_table_has_its_rows() {
         ("books", 8),
         ("layers", 42),
         ("feeds", 17),
-        ("held", 17),
         ("calls", 17),
         ("call-layers", 42),
         ("turns", 17),

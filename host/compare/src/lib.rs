@@ -29,18 +29,6 @@ impl Engine for Archive {
         number.get().into()
     }
 
-    fn messages(
-        &self,
-        venue: &mut [u8],
-        before: u32,
-        messages: &[u8],
-        report: &mut [u8],
-        done: &mut [u8],
-    ) -> Came {
-        let number = legging::messages_in(venue, before, messages, report, done);
-        number.get().into()
-    }
-
     fn settings(&self, venue: &[u8], number: u32, settings: &mut [u8]) -> Came {
         legging::settings_in(venue, number, settings).get().into()
     }
@@ -70,7 +58,7 @@ impl Engine for Archive {
     }
 }
 
-/// Replays the engine's records of each message of a session on the venue before it: no
+/// Replays the engine's records of each message of a session upon the venue before it: no
 /// trade or cross passes a better price over, and they lead to the venue left.
 pub struct Replay;
 

@@ -26,46 +26,35 @@ compare: the engine against the reference, byte for byte
   compare session --profile P --seed S            one session again
   compare session [--text] FILE                   a session of your own
 
-For each session of the generator, compare makes these calls of both engines:
-  run        the whole list, with report memory that ends near each message's records and
-             of every short length; the list cut off, with changed and with random bytes
-  feed       the list over two lines, with messages lost, cut, doubled, swapped and spoiled
-  message    the messages one by one, the first on a fresh venue and each other on the venue
-             that the last one left. Beside these, calls with short memory, with the last
-             message numbers, with torn bytes, on changed venues and with venue memory of
-             other lengths; on rows of editions and generations broken in every way, with
-             numbers about the last edition's and where a ceiling ends; on orders that show
-             another part, on complex orders of other ratios, and on both broken in every
-             way, a legging order of unequal ratios among them
-  settings   the settings about each edition
-  held run   the same messages in lists of every length on one held venue, with one-message
-             calls, sets and settings between the runs: each run leaves the venue and writes
-             the records of as many one-message calls. Beside these, lists with the memories,
-             numbers, bytes and venues of the one-message calls, and with memory of other
-             lengths for the number of messages done
-  layer      four sessions arrive at four venues behind one line and are done by turns, with
-             calls beside them on short memory, changed layers and layer memory of other
-             lengths
-  sets       sets of venues on the way, written into memory of every length and read back:
-             cut at every byte, spoiled in every way, with one too many of each part, and
-             short; sets of changed venues and with numbers about the last one kept
-compare also replays the engine's records of each message on the venue before it: no trade
-or cross passes over a better price, and the records lead to the venue that the engine left.
+Each session of the generator is run whole, with report memory that ends near each
+message's records and of every short length, cut off, with changed and with random
+bytes; over two lines, with messages lost, cut, doubled, swapped and spoiled; and
+message by message, the first upon a fresh venue and each other upon the venue that
+the last one left, with calls beside them upon short memory, the last message numbers,
+torn bytes, changed venues and venue memory of other lengths, upon rows of editions
+broken in every way, with numbers about the last edition's, upon orders that show
+otherwise in every way or another part of them, upon complex orders of ratios broken in
+every way or of others, a legging order of unequal ratios among them, upon rows of
+generations broken in every way and where a ceiling ends; and the settings about each
+edition. The engine's records of each message are replayed upon the venue before it: no
+trade or cross passes a better price over, and they lead to the venue that the engine
+left. Four sessions arrive at four venues behind one line and are done by
+turns, with calls beside them upon short memory, changed layers and layer memory of
+other lengths. Sets of venues on the way are written into memory of every length and
+read back, cut at every byte; spoiled in every way, one too many of each part among them;
+short; and written of changed venues and with numbers about the last one kept.
+Compared are the number, every byte of the report, settings or set memory (lent full of
+junk), of the venue, the layer and the lines, and the bytes around them.
+The first difference ends it with exit status 1, and names what repeats it. A soak tries
+report memory that ends near one in ten messages' records; the others try all of them.
 
-It compares the number, every byte of the report, settings or set memory (full of junk
-before the call), of the venue, the layer and the lines, and the bytes around them. It ends
-at the first difference with exit status 1, and prints the command that repeats it. A soak
-tries report memory that ends near the records of one message in ten; the other commands
-try it for every message.
+A session of your own is message bytes, or text with --text; bytes that look like text are
+an error, and --bytes takes them as bytes. It is taken message by message, each upon the
+venue that the last one left, and whole by a run with report memory that just fits and with
+more; and both sheets are compared line by line. - is standard input, and what follows --
+is a file's name. `venue compare` starts this.
 
-A session of your own is message bytes, or text with --text. Bytes that look like text are
-an error; --bytes takes them as bytes. compare does the session message by message, each on
-the venue that the last one left, in lists of 100 messages on a held venue, and whole by a
-run with report memory that just fits and with more; and it compares both sheets line by
-line. - is standard input, and the word after -- is a file's name. `venue compare` starts
-this.
-
-On a terminal, one line on standard error shows how far it is.
+How far it is stands in one line on standard error, where that is a terminal.
 ";
 
 /// When to stop.
@@ -75,7 +64,7 @@ enum Until {
     Time(Duration),
 }
 
-/// What the command line wants.
+/// What was asked for.
 struct Request {
     profiles: Vec<Profile>,
     seed: u64,
@@ -132,7 +121,7 @@ fn wrong(what: &str) -> ExitCode {
     ExitCode::from(2)
 }
 
-/// A session in a file, where the command line names one.
+/// A session in a file, where one is asked for.
 fn parse_own(arguments: &[OsString]) -> Result<Option<Own>, String> {
     let drawn = |word: &&OsString| *word == "--profile" || *word == "--seed";
     let words = arguments.iter().skip(1);
@@ -192,7 +181,7 @@ fn compare_file(own: &Own) -> Result<String, String> {
     let compared = drive_own(&mut driver, &list).map_err(named)?;
     let messages = counted(compared.messages as u64, "message");
     let records = counted(compared.records as u64, "record");
-    let ways = "by a run, by runs on a held venue, by one-message calls and on the sheet";
+    let ways = "by a run, by one-message calls and on the sheet";
     Ok(format!("no difference: {messages}, {records}, {ways}\n"))
 }
 
@@ -315,7 +304,6 @@ fn told(counts: &Counts) -> String {
         (counts.messages, "messages"),
         (counts.runs, "runs"),
         (counts.feeds, "feeds of two lines"),
-        (counts.held_runs, "runs on a held venue"),
         (counts.calls, "one-message calls"),
         (counts.moments, "trades and crosses replayed"),
         (counts.settings, "settings told"),

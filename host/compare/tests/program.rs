@@ -83,8 +83,7 @@ const PRINTED: &str = include_str!("../../venue/tests/sessions/printed.txt");
 fn a_session_of_ones_own_without_a_difference() {
     let text = Kept::new("printed.txt", PRINTED.as_bytes());
     let told =
-        "no difference: 6 messages, 13 records, by a run, by runs on a held venue, by one-message \
-         calls and on the sheet\n";
+        "no difference: 6 messages, 13 records, by a run, by one-message calls and on the sheet\n";
     let (status, found, error) = compare(&["session", "--text", text.path()]);
     assert_eq!((status, found.as_str()), (0, told), "{error}");
     let list = sessions::text::encode_session(PRINTED).expect("good text");
@@ -117,10 +116,6 @@ fn a_difference_on_ones_own_session_is_told_with_its_file() {
         (
             "replay:report",
             "the records of a one-message call, replayed",
-        ),
-        (
-            "messages:told",
-            "a run on a held venue: 0 messages before, memory of",
         ),
         (
             "run-whole:report",

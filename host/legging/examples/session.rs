@@ -1,6 +1,6 @@
 //! The printed session of document 01: opens two series, offers in both, a complex
 //! order that is shown in both books, and an order that hits it. First by one run,
-//! then message by message on a venue held here: the records are the same. Then an
+//! then message by message upon a venue held here: the records are the same. Then an
 //! order that shows a part of it, a complex order of two contracts against one, and a
 //! sweep limited to one order. At last the venue is carried over an upgrade.
 //!
@@ -60,7 +60,7 @@ fn later_kinds() -> [Message; 3] {
     ]
 }
 
-/// Does a message on the venue; returns its records.
+/// Takes a message upon the venue; tells its records.
 fn take(venue: &mut Venue, message: &Message) -> Result<Vec<Record>, Box<dyn Error>> {
     let mut report = [0; MOST_BYTES];
     venue.take(message, &mut report).ok()?;

@@ -1,19 +1,19 @@
 //! The calls of the archives over slices. All of the wrapper's unsafe code is here.
 
 use crate::c::{legging_arrive, legging_layer_fresh, legging_turn};
-use crate::c::{legging_feed, legging_fresh, legging_message, legging_messages, legging_run};
-use crate::c::{legging_read_set, legging_settings, legging_write_set};
+use crate::c::{legging_feed, legging_fresh, legging_message, legging_run, legging_settings};
+use crate::c::{legging_read_set, legging_write_set};
 use crate::layer::{LayerBytes, Turned};
 use crate::number::Number;
 use crate::venue::VenueBytes;
 
 /// Runs a message list from a fresh venue.
 ///
-/// The call takes the messages one by one. It answers a message that it refuses with 2 to 8
-/// or 11 to 14, and goes on. The number is [`Number::DONE`] when all messages were done. It is
-/// [`Number::TORN`] when a torn message ended the run: the call answered that message and read
-/// nothing after it. It is [`Number::NO_ROOM`] when the run ended before the first message
-/// whose records do not fit into the rest of `report`.
+/// Messages are taken one by one; one that is refused with 2 to 8 or 11 to 14 is
+/// answered and passed over. The number is [`Number::DONE`] when all were done,
+/// [`Number::TORN`] when a torn message ended the run, which is answered while
+/// nothing after it is read, and [`Number::NO_ROOM`] when the run ended before the
+/// first message whose records do not fit into the rest of `report`.
 ///
 /// ```
 /// use legging::{records, run, Message, Number};
@@ -40,13 +40,13 @@ pub fn run(messages: &[u8], report: &mut [u8]) -> Number {
 
 /// Runs the messages that come over two lines, from a fresh venue.
 ///
-/// A line is messages, each after its number, a little-endian u32. Numbers count from 1 and
-/// rise, and a line may lack some. The call takes the message of each number from `main`, or
-/// from `spare` where `main` lacks it. The number is [`Number::DONE`] when neither line has
-/// more, and [`Number::NO_ROOM`] as in [`run`]. With [`Number::DIFFERS`] both lines have the
-/// next message with different bytes, and with [`Number::LOST`] neither line has it: the
-/// messages before it were done. The call tests [`Number::BAD_LINE`] first, on both whole
-/// lines: then nothing was done and `report` is all zeros.
+/// On a line each message stands after its number, a little-endian u32; numbers count
+/// from 1 and rise, and a line may lack some. The message of each number is taken from
+/// `main`, or from `spare` where `main` lacks it. The number is [`Number::DONE`] when
+/// neither line has more, and [`Number::NO_ROOM`] as of [`run`]. It is
+/// [`Number::DIFFERS`] or [`Number::LOST`] where the next message is not to be had:
+/// what went before was done. With [`Number::BAD_LINE`], asked of both whole lines
+/// first, nothing was done and `report` is all zeros.
 ///
 /// ```
 /// use legging::{feed, records, Message, Number};
@@ -77,9 +77,9 @@ pub fn feed(main: &[u8], spare: &[u8], report: &mut [u8]) -> Number {
     Number::new(number)
 }
 
-/// Writes a fresh venue into venue memory: [`Number::DONE`]. If the memory does not have
-/// [`VENUE_BYTES`](crate::VENUE_BYTES) bytes, the number is [`Number::UNSOUND`] and the
-/// memory is as it was.
+/// Writes a fresh venue into venue memory: [`Number::DONE`]. With other than
+/// [`VENUE_BYTES`](crate::VENUE_BYTES) bytes the number is [`Number::UNSOUND`], and
+/// the memory as it was.
 ///
 /// ```
 /// use legging::{fresh_in, Number, VenueBytes, VENUE_BYTES};
@@ -95,14 +95,14 @@ pub fn fresh_in(venue: &mut [u8]) -> Number {
     Number::new(number)
 }
 
-/// Does the first message of `message` on a venue; `before` messages were done
+/// Takes the first message of `message` upon a venue; `before` messages went
 /// before it, and its own number is one more.
 ///
-/// An accepted message leaves the venue that follows from it. A refused message (1 to 8, 11
-/// to 14) leaves the venue as it was. `report` has the answer of both. With
-/// [`Number::UNSOUND`] and with [`Number::NO_ROOM`] nothing was done: the venue is as it was
-/// and `report` is all zeros. [`Number::UNSOUND`] also means that the message's number is not
-/// above that of every edition and generation kept.
+/// An accepted message leaves the venue that follows from it. A refused one (1 to 8,
+/// 11 to 14) leaves the venue as it was. Both are answered in `report`. With
+/// [`Number::UNSOUND`], also where its number is not above that of every edition and
+/// generation kept, and with [`Number::NO_ROOM`] nothing was done: the venue is as given
+/// and `report` all zeros.
 ///
 /// ```
 /// use legging::{one_message, Message, Number, Status, VenueBytes, MOST_BYTES};
@@ -124,8 +124,8 @@ pub fn one_message(
     one_message_in(venue.as_mut_bytes(), before, message, report)
 }
 
-/// As [`one_message`], on venue memory of any length. If it does not have
-/// [`VENUE_BYTES`](crate::VENUE_BYTES) bytes, the number is [`Number::UNSOUND`].
+/// As [`one_message`], upon venue memory of any length: with other than
+/// [`VENUE_BYTES`](crate::VENUE_BYTES) bytes the number is [`Number::UNSOUND`].
 ///
 /// ```
 /// use legging::{one_message_in, Message, Number};
@@ -153,85 +153,11 @@ pub fn one_message_in(venue: &mut [u8], before: u32, message: &[u8], report: &mu
     Number::new(number)
 }
 
-/// Runs a message list on a venue; `before` messages were done before the first of them.
-/// Returns the number, and how many messages were done.
-///
-/// The call takes the messages one by one, and its number is that of [`run`]. The venue is
-/// then the one that the messages done left, and `report` is their records. With
-/// [`Number::UNSOUND`] nothing was done: the venue is as it was and `report` is all zeros.
-/// [`Number::UNSOUND`] also means that the number of the first message is not above that of
-/// every edition and generation kept. The call checks this first, also for an empty list.
-///
-/// ```
-/// use legging::{messages, records, Message, Number, VenueBytes};
-///
-/// // Three sweeps, with report memory for two: the venue is left after the second.
-/// let list = Message::Sweep.encode().repeat(3);
-/// let mut venue = VenueBytes::fresh();
-/// let mut report = [0; 30];
-/// assert_eq!(messages(&mut venue, 0, &list, &mut report), (Number::NO_ROOM, 2));
-/// assert_eq!(records(&report).count(), 2);
-/// let rest = &list[2 * 4..];
-/// assert_eq!(messages(&mut venue, 2, rest, &mut report), (Number::DONE, 1));
-/// ```
-pub fn messages(
-    venue: &mut VenueBytes,
-    before: u32,
-    messages: &[u8],
-    report: &mut [u8],
-) -> (Number, u32) {
-    let mut done = [0; 4];
-    let number = messages_in(venue.as_mut_bytes(), before, messages, report, &mut done);
-    (number, u32::from_le_bytes(done))
-}
-
-/// As [`messages`], on venue memory of any length. The number of messages done, a
-/// little-endian u32, goes into `done`. If the venue memory does not have
-/// [`VENUE_BYTES`](crate::VENUE_BYTES) bytes or `done` does not have 4, the number is
-/// [`Number::UNSOUND`], the venue memory is as it was, and the others are all zeros.
-///
-/// ```
-/// use legging::{messages_in, Message, Number, VENUE_BYTES};
-///
-/// // All zeros are a sound venue. Three bytes are no memory for the number of messages done.
-/// let (mut venue, mut report) = ([0; VENUE_BYTES], [0xFF; 30]);
-/// let list = Message::Sweep.encode().repeat(2);
-/// let mut done = [0xFF; 4];
-/// let number = messages_in(&mut venue, 0, &list, &mut report, &mut done);
-/// assert_eq!((number, done), (Number::DONE, [2, 0, 0, 0]));
-/// let number = messages_in(&mut venue, 2, &list, &mut report, &mut done[..3]);
-/// assert_eq!((number, done, report), (Number::UNSOUND, [0; 4], [0; 30]));
-/// ```
-pub fn messages_in(
-    venue: &mut [u8],
-    before: u32,
-    messages: &[u8],
-    report: &mut [u8],
-    done: &mut [u8],
-) -> Number {
-    // SAFETY: the four slices are whole for their lengths and cannot overlap; the call
-    // reads `messages`, writes the other three, and keeps none.
-    let number = unsafe {
-        legging_messages(
-            venue.as_mut_ptr(),
-            venue.len(),
-            before,
-            messages.as_ptr(),
-            messages.len(),
-            report.as_mut_ptr(),
-            report.len(),
-            done.as_mut_ptr(),
-            done.len(),
-        )
-    };
-    Number::new(number)
-}
-
-/// Writes the settings of a venue at a message number, eight increments and the percentage,
-/// then zeros to the end of the memory: [`Number::DONE`]. The number is [`Number::UNSOUND`]
-/// and the memory is all zeros if the venue is unsound or does not have
-/// [`VENUE_BYTES`](crate::VENUE_BYTES) bytes, or if the memory has fewer than
-/// [`SETTINGS_BYTES`](crate::SETTINGS_BYTES).
+/// Writes the settings of a venue at a message number: eight increments, the
+/// percentage, then zeros to the end of the memory: [`Number::DONE`]. With a venue that
+/// is unsound or of another length than [`VENUE_BYTES`](crate::VENUE_BYTES), or less
+/// memory than [`SETTINGS_BYTES`](crate::SETTINGS_BYTES), the number is
+/// [`Number::UNSOUND`] and the memory all zeros.
 ///
 /// ```
 /// use legging::{settings_in, Number, VenueBytes, SETTINGS_BYTES};
@@ -256,12 +182,12 @@ pub fn settings_in(venue: &[u8], number: u32, settings: &mut [u8]) -> Number {
     Number::new(number)
 }
 
-/// Writes the set of a venue on which `number` messages were done, then zeros to the end of
-/// the memory, and the set's length, a little-endian u32, into `written`: [`Number::DONE`].
-/// Otherwise both are all zeros. With [`Number::UNSOUND`] the venue is unsound, has a message
-/// number above `number` or does not have [`VENUE_BYTES`](crate::VENUE_BYTES) bytes, or
-/// `written` does not have 4 bytes. With [`Number::SHORT_MEMORY`] the set is longer than its
-/// memory.
+/// Writes the set of a venue upon which `number` messages were done, then zeros to the end
+/// of the memory, and its length, a little-endian u32, into `written`: [`Number::DONE`].
+/// Otherwise both are all zeros: with [`Number::UNSOUND`] the venue is unsound, has a
+/// message number above `number` or another length than
+/// [`VENUE_BYTES`](crate::VENUE_BYTES), or `written` is not of 4 bytes; with
+/// [`Number::SHORT_MEMORY`] the set is longer than its memory.
 ///
 /// ```
 /// use legging::{write_set_in, Number, VenueBytes, SET_BYTES};
@@ -293,10 +219,10 @@ pub fn write_set_in(venue: &[u8], number: u32, set: &mut [u8], written: &mut [u8
 }
 
 /// Reads a set into venue memory, and the number of its last message, a little-endian u32,
-/// into `number`: [`Number::DONE`]. Otherwise these are a fresh venue and all zeros. With
-/// [`Number::BAD_SET`] the records are no set. With [`Number::UNSOUND`] the set's venue is
-/// unsound or has a message number above its own; or `number` does not have 4 bytes or `venue`
-/// does not have [`VENUE_BYTES`](crate::VENUE_BYTES), and then `venue` is as it was.
+/// into `number`: [`Number::DONE`]. Otherwise these are a fresh venue and all zeros: with
+/// [`Number::BAD_SET`] the records are no set; with [`Number::UNSOUND`] its venue is
+/// unsound or has a message number above its own, `number` is not of 4 bytes, or `venue`
+/// not of [`VENUE_BYTES`](crate::VENUE_BYTES) and then as it was.
 ///
 /// ```
 /// use legging::{read_set_in, Number, VENUE_BYTES};
@@ -322,9 +248,9 @@ pub fn read_set_in(set: &[u8], venue: &mut [u8], number: &mut [u8]) -> Number {
     Number::new(number)
 }
 
-/// Writes a layer of four fresh venues into layer memory: [`Number::DONE`]. If the memory does
-/// not have [`LAYER_BYTES`](crate::LAYER_BYTES) bytes, the number is [`Number::UNSOUND`] and
-/// the memory is as it was.
+/// Writes a layer of four fresh venues into layer memory: [`Number::DONE`]. With other
+/// than [`LAYER_BYTES`](crate::LAYER_BYTES) bytes the number is [`Number::UNSOUND`], and
+/// the memory as it was.
 ///
 /// ```
 /// use legging::{layer_fresh_in, LayerBytes, Number, LAYER_BYTES};
@@ -340,10 +266,10 @@ pub fn layer_fresh_in(layer: &mut [u8]) -> Number {
     Number::new(number)
 }
 
-/// Puts a message at the end of a venue's wait: [`Number::DONE`]. Otherwise the layer is as it
-/// was. The call checks [`Number::UNSOUND`] first, then [`Number::NO_VENUE`] (the venue is
-/// above 3), then [`Number::NO_PLACE`] (8 messages wait already, or the message is over 32
-/// bytes).
+/// Puts a message at the end of a venue's wait: [`Number::DONE`]. Otherwise the layer is
+/// as given: [`Number::NO_VENUE`] for a venue above 3, [`Number::NO_PLACE`] where 8
+/// messages wait already or the message is over 32 bytes, and before both
+/// [`Number::UNSOUND`].
 ///
 /// ```
 /// use legging::{arrive, LayerBytes, Message, Number};
@@ -358,8 +284,8 @@ pub fn arrive(layer: &mut LayerBytes, venue: u32, message: &[u8]) -> Number {
     arrive_in(layer.as_mut_bytes(), venue, message)
 }
 
-/// As [`arrive`], on layer memory of any length. If it does not have
-/// [`LAYER_BYTES`](crate::LAYER_BYTES) bytes, the number is [`Number::UNSOUND`].
+/// As [`arrive`], upon layer memory of any length: with other than
+/// [`LAYER_BYTES`](crate::LAYER_BYTES) bytes the number is [`Number::UNSOUND`].
 ///
 /// ```
 /// use legging::{arrive_in, Number};
@@ -385,9 +311,9 @@ pub fn arrive_in(layer: &mut [u8], venue: u32, message: &[u8]) -> Number {
 /// Does the message at the head of the next venue's wait, as [`one_message`] would: the
 /// next venue after the one served last, going round, that has a message waiting.
 ///
-/// A turn that serves no venue leaves the layer as it was and `report` all zeros. Its number
-/// is [`Number::DONE`] where nothing waits, [`Number::UNSOUND`] or [`Number::NO_ROOM`]. After
-/// [`Number::NO_ROOM`] the next turn tries the same message again.
+/// A turn that serves no venue leaves the layer as given and `report` all zeros: its
+/// number is [`Number::DONE`] where nothing waits, [`Number::UNSOUND`], or
+/// [`Number::NO_ROOM`], and then the next turn tries the same message again.
 ///
 /// ```
 /// use legging::{arrive, turn, LayerBytes, Message, Number, MOST_BYTES};
@@ -404,8 +330,8 @@ pub fn turn(layer: &mut LayerBytes, report: &mut [u8]) -> Turned {
     turn_in(layer.as_mut_bytes(), report)
 }
 
-/// As [`turn`], on layer memory of any length. If it does not have
-/// [`LAYER_BYTES`](crate::LAYER_BYTES) bytes, the number is [`Number::UNSOUND`].
+/// As [`turn`], upon layer memory of any length: with other than
+/// [`LAYER_BYTES`](crate::LAYER_BYTES) bytes the number is [`Number::UNSOUND`].
 ///
 /// ```
 /// use legging::{turn_in, Number};

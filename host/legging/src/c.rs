@@ -1,12 +1,11 @@
 //! The calls of the archives as `include/legging.h` declares them, for a host that holds
-//! raw memory. The safe calls of this crate use them.
+//! raw memory. The safe calls of this crate are over them.
 //!
 //! # Safety
 //!
-//! For every call: each pointer is valid for its length, for reading where it is `const` and
-//! for reading and writing where it is `mut`; with the length 0 it may be null. Memory that a
-//! call writes overlaps no other memory of the same call, and no other thread uses it during
-//! the call.
+//! Of every call: each pointer is valid for its length, to be read where it is `const` and
+//! to be read and written where it is `mut`; with the length 0 it may be null. What is
+//! written overlaps nothing else of the same call, and no other thread uses it meanwhile.
 
 extern "C" {
     /// As [`run`](crate::run).
@@ -39,19 +38,6 @@ extern "C" {
         message_len: usize,
         report: *mut u8,
         report_len: usize,
-    ) -> u8;
-
-    /// As [`messages_in`](crate::messages_in).
-    pub fn legging_messages(
-        venue: *mut u8,
-        venue_len: usize,
-        before: u32,
-        messages: *const u8,
-        messages_len: usize,
-        report: *mut u8,
-        report_len: usize,
-        done: *mut u8,
-        done_len: usize,
     ) -> u8;
 
     /// As [`settings_in`](crate::settings_in).

@@ -38,7 +38,7 @@ impl LayerBytes {
         LayerBytes(bytes)
     }
 
-    /// A layer kept as bytes. The calls test whether it is sound.
+    /// A layer kept as bytes. Whether it is sound is tested by the calls.
     pub const fn from_bytes(bytes: [u8; LAYER_BYTES]) -> Self {
         LayerBytes(bytes)
     }
@@ -115,7 +115,7 @@ impl Turned {
         Number::new(self.0 as u8)
     }
 
-    /// The venue served; none where nothing waits or 9 or 10 ended the turn.
+    /// The venue served; none where nothing waits or the turn was ended by 9 or 10.
     pub fn venue(self) -> Option<usize> {
         let venue = (self.0 >> 8) as usize;
         (venue < VENUES).then_some(venue)
@@ -150,7 +150,7 @@ impl Layer {
         Layer(LayerBytes::fresh())
     }
 
-    /// A layer kept as bytes. The calls test whether it is sound.
+    /// A layer kept as bytes. Whether it is sound is tested by the calls.
     pub const fn new(bytes: LayerBytes) -> Self {
         Layer(bytes)
     }

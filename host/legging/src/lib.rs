@@ -2,18 +2,18 @@
 //! `rt staticlib c_api` and, for four venues behind one line, `rt staticlib dispatch`
 //! write.
 //!
-//! A host holds a [`Venue`] and hands it one [`Message`] after another, or lists of them. A
-//! [`Set`] carries it over an upgrade. A [`Layer`] is four venues behind one line. After a call
+//! A host holds a [`Venue`] and hands it one [`Message`] after another; a [`Set`] carries
+//! it over an upgrade, and a [`Layer`] is four venues behind one line. After a call
 //! [`records`] reads the report memory record by record. [`run`] takes a whole message
 //! list from a fresh venue, and [`feed`] one that comes over two lines. The other
-//! functions are the same calls on bytes that the host holds itself.
+//! functions are the same calls upon bytes that the host holds itself.
 //!
-//! After a call the report memory is the records done, then zeros to its end. A call does not
-//! read what it held before. A call keeps nothing, allocates nothing and shares no state with
+//! After a call the report memory is the records done, then zeros to its end; what it held
+//! before is not read. A call keeps nothing, allocates nothing and shares no state with
 //! another, so calls may run on any number of threads at once. The methods of [`Venue`] and
-//! [`Layer`] allocate the message's bytes, and those of [`Set`] the set's bytes.
+//! [`Layer`] allocate the message's bytes, and those of [`Set`] the set's.
 //!
-//! `include/legging.h` describes the bytes of messages and records.
+//! The bytes of messages and records are told in `include/legging.h`.
 //!
 //! ```
 //! use legging::{records, Leg, Message, NewComplex, NewOrder, Number, Record, Venue, MOST_BYTES};
@@ -58,7 +58,7 @@ mod venue;
 
 pub use archive::{arrive, arrive_in, layer_fresh_in, turn, turn_in};
 pub use archive::{feed, fresh_in, one_message, one_message_in, run, settings_in};
-pub use archive::{messages, messages_in, read_set_in, write_set_in};
+pub use archive::{read_set_in, write_set_in};
 pub use layer::{Layer, LayerBytes, Turned, LAYER_BYTES, MOST_MESSAGE, MOST_WAITING, VENUES};
 pub use number::Number;
 pub use set::{read_set, write_set, Set, SET_BYTES};
@@ -70,5 +70,5 @@ pub use wire::message::{NewComplex, NewOrder, Percent, Status};
 pub use wire::record::{records, Answer, BadRecord, Cancelled, Cross, Generated, Looked};
 pub use wire::record::{Pair, Record, Records, Removed, Trade};
 
-/// No message on a sound venue writes more bytes.
+/// No message upon a sound venue writes more bytes.
 pub const MOST_BYTES: usize = 10_433;

@@ -6,7 +6,7 @@ use std::fmt::{self, Display};
 /// What a call returned: 0 to 14, 15 and 16 of a set, 17 and 18 of an arrival, 19 to 21 of a
 /// feed.
 ///
-/// As an error it says why a call did not do what the caller wanted:
+/// As an error it is why a call did not do what it was asked for:
 ///
 /// ```
 /// use legging::{Number, Set};
@@ -19,7 +19,7 @@ use std::fmt::{self, Display};
 /// assert_eq!(error.downcast_ref(), Some(&Number::BAD_SET));
 /// ```
 ///
-/// The compiler warns of a number that nothing looks at:
+/// A number that is not looked at is warned of:
 ///
 /// ```compile_fail
 /// #![deny(unused_must_use)]
@@ -63,18 +63,19 @@ impl Number {
     pub const EDITIONS_FULL: Number = Number(13);
     /// The two ratios are equal.
     pub const EQUAL_RATIOS: Number = Number(14);
-    /// The memory for a set is shorter than the set.
+    /// The memory lent for a set is shorter than it.
     pub const SHORT_MEMORY: Number = Number(15);
     /// A record of a set is torn, missing, out of order, one too many, or of a kind or
-    /// length that a set does not have.
+    /// length that the set has not.
     pub const BAD_SET: Number = Number(16);
     /// The venue's wait holds 8 messages, or the message is over 32 bytes.
     pub const NO_PLACE: Number = Number(17);
     /// The venue's number is above 3.
     pub const NO_VENUE: Number = Number(18);
-    /// Both lines have the next number, but their bytes differ.
+    /// Both lines have the number that comes next, but their bytes differ.
     pub const DIFFERS: Number = Number(19);
-    /// Neither line has the next number, but a line has a later one.
+    /// Neither line has the number that comes next, though a later one stands on
+    /// either.
     pub const LOST: Number = Number(20);
     /// A line is torn, does not rise, or has a length below 4 or number 0.
     pub const BAD_LINE: Number = Number(21);
@@ -88,7 +89,7 @@ impl Number {
         self.0
     }
 
-    /// Nothing if it is [`Number::DONE`], otherwise the number as an error.
+    /// Nothing where it is [`Number::DONE`], else the number as an error.
     pub fn ok(self) -> Result<(), Number> {
         match self {
             Number::DONE => Ok(()),
@@ -96,8 +97,8 @@ impl Number {
         }
     }
 
-    /// Whether a message was done, refused or not: a one-message call then did 1 message,
-    /// otherwise 0.
+    /// Whether a message was done, refused or not: of a one-message call the
+    /// messages done are then 1, else 0.
     pub fn is_done(self) -> bool {
         let later = Number::EDITION_NOT_ABOVE..=Number::EQUAL_RATIOS;
         self <= Number::NO_SUCH_ORDER || later.contains(&self)

@@ -8,15 +8,15 @@ use std::fmt;
 /// No set has more bytes.
 pub const SET_BYTES: usize = 5_900;
 
-/// Writes the set of a venue on which `number` messages were done, then zeros to the end
-/// of the memory, and returns the set's length. Otherwise the memory is all zeros:
-/// [`Number::UNSOUND`] if the venue is unsound or has a message number above `number`,
-/// [`Number::SHORT_MEMORY`] if the set is longer; [`SET_BYTES`] are always enough.
+/// Writes the set of a venue upon which `number` messages were done, then zeros to the end
+/// of the memory, and tells its length. Otherwise the memory is all zeros:
+/// [`Number::UNSOUND`] where the venue is unsound or has a message number above `number`,
+/// [`Number::SHORT_MEMORY`] where the set is longer; [`SET_BYTES`] are always enough.
 ///
 /// ```
 /// use legging::{read_set, write_set, VenueBytes, SET_BYTES};
 ///
-/// // A venue on which 7 messages were done, carried over: the next one has `before` 7.
+/// // A venue upon which 7 messages were done, carried over: the next one has `before` 7.
 /// let venue = VenueBytes::fresh();
 /// let mut set = [0xFF; SET_BYTES];
 /// let length = write_set(&venue, 7, &mut set)?;
@@ -31,9 +31,9 @@ pub fn write_set(venue: &VenueBytes, number: u32, set: &mut [u8]) -> Result<usiz
     }
 }
 
-/// The venue of a set, whole or short, and how many messages were done on it. Otherwise
-/// [`Number::BAD_SET`] if the records are no set, and then [`Number::UNSOUND`] if the set's
-/// venue is unsound or has a message number above its own.
+/// The venue of a set, whole or short, and how many messages were done upon it. It is
+/// refused with [`Number::BAD_SET`] where its records are no set, and else with
+/// [`Number::UNSOUND`] where its venue is unsound or has a message number above its own.
 ///
 /// ```
 /// use legging::{read_set, Number};
@@ -66,8 +66,8 @@ pub fn read_set(set: &[u8]) -> Result<(VenueBytes, u32), Number> {
 pub struct Set(Vec<u8>);
 
 impl Set {
-    /// The set of a venue; [`Number::UNSOUND`] if the venue is unsound or has a message number
-    /// above those done.
+    /// The set of a venue; [`Number::UNSOUND`] where the venue is unsound or has a message
+    /// number above those done.
     ///
     /// ```
     /// use legging::{Number, Set, Venue, VenueBytes, VENUE_BYTES};
@@ -83,7 +83,7 @@ impl Set {
         Ok(Set(bytes))
     }
 
-    /// A set kept as bytes. [`Set::read`] tests whether it is a set.
+    /// A set kept as bytes. Whether it is one is tested by [`Set::read`].
     pub fn from_bytes(bytes: &[u8]) -> Set {
         Set(bytes.to_vec())
     }
@@ -93,7 +93,7 @@ impl Set {
         &self.0
     }
 
-    /// The venue of the set, whole or short, with the messages done on it, or the refusal of
+    /// The venue of the set, whole or short, with the messages done upon it; refused as by
     /// [`read_set`].
     ///
     /// ```

@@ -16,9 +16,8 @@ pub struct Settings {
     pub percent: u8,
 }
 
-/// The settings of a venue in force at a message number, which may be any number: of each
-/// setting the last that a message with that number or a lower one entered. None if the venue
-/// is unsound.
+/// The settings of a venue in force at a message number, any number: of each the last
+/// that a message numbered no higher has entered. None where the venue is unsound.
 ///
 /// ```
 /// use legging::{settings, VenueBytes};

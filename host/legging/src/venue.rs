@@ -1,11 +1,10 @@
-//! A venue held by a host between calls.
+//! A venue held by a host between one-message calls.
 
-use crate::archive::{fresh_in, messages, one_message};
+use crate::archive::{fresh_in, one_message};
 use crate::number::Number;
 use crate::set::Set;
 use crate::settings::{settings, Settings};
 use std::fmt;
-use wire::message::encode_all;
 use wire::Message;
 
 /// The length of a venue.
@@ -156,7 +155,7 @@ impl VenueBytes {
         VenueBytes(bytes)
     }
 
-    /// A venue kept as bytes. The call tests whether it is sound.
+    /// A venue kept as bytes. Whether it is sound is tested by the call.
     pub const fn from_bytes(bytes: [u8; VENUE_BYTES]) -> Self {
         VenueBytes(bytes)
     }
@@ -285,7 +284,7 @@ impl fmt::Debug for VenueBytes {
     }
 }
 
-/// A venue that a host holds, with how many messages were done on it.
+/// A venue that a host holds, with how many messages were done upon it.
 ///
 /// ```
 /// use legging::{records, Leg, Message, NewOrder, Number, Record, Venue, MOST_BYTES};
@@ -314,7 +313,7 @@ pub struct Venue {
 }
 
 impl Venue {
-    /// A fresh venue, on which no message was done.
+    /// A fresh venue, upon which no message was done.
     ///
     /// ```
     /// let venue = legging::Venue::fresh();
@@ -324,8 +323,8 @@ impl Venue {
         Venue::default()
     }
 
-    /// A venue kept as bytes, on which so many messages were done. The calls test whether it is
-    /// sound.
+    /// A venue kept as bytes, upon which so many messages were done. Whether it is sound
+    /// is tested by the calls.
     pub const fn new(bytes: VenueBytes, done: u32) -> Self {
         Venue { bytes, done }
     }
@@ -341,7 +340,7 @@ impl Venue {
         self.done
     }
 
-    /// Does a message, as [`one_message`], and counts it unless the number is
+    /// Takes a message, as [`one_message`]: it is counted unless the number is
     /// [`Number::UNSOUND`] or [`Number::NO_ROOM`].
     ///
     /// ```
@@ -369,41 +368,6 @@ impl Venue {
         let number = one_message(&mut self.bytes, self.done, message, report);
         // The last message number is followed by none: the call ends with NO_ROOM.
         self.done += u32::from(number.is_done());
-        number
-    }
-
-    /// Does messages one after another by one call, as [`messages`], and counts those that were
-    /// done.
-    ///
-    /// ```
-    /// use legging::{Cancel, Message, Number, Venue, MOST_BYTES};
-    ///
-    /// let mut venue = Venue::fresh();
-    /// let list = [Message::Sweep, Message::Cancel(Cancel { id: 1 }), Message::Sweep];
-    /// assert_eq!(venue.take_all(&list, &mut [0; 3 * MOST_BYTES]), Number::DONE);
-    /// assert_eq!(venue.done(), 3);
-    /// // Report memory for two of them: the next call goes on with the third.
-    /// assert_eq!(venue.take_all(&list, &mut [0; 24]), Number::NO_ROOM);
-    /// assert_eq!(venue.done(), 5);
-    /// ```
-    pub fn take_all(&mut self, messages: &[Message], report: &mut [u8]) -> Number {
-        self.take_all_bytes(&encode_all(messages), report)
-    }
-
-    /// As [`Venue::take_all`], the messages of some bytes. The call answers a torn message at
-    /// their end and counts it.
-    ///
-    /// ```
-    /// use legging::{Number, Venue};
-    ///
-    /// let mut venue = Venue::fresh();
-    /// assert_eq!(venue.take_all_bytes(&[4, 0, 6, 0, 9], &mut [0; 24]), Number::TORN);
-    /// assert_eq!(venue.done(), 2);
-    /// ```
-    pub fn take_all_bytes(&mut self, list: &[u8], report: &mut [u8]) -> Number {
-        let (number, done) = messages(&mut self.bytes, self.done, list, report);
-        // No message is done whose number would pass the last one.
-        self.done += done;
         number
     }
 

@@ -179,7 +179,7 @@ fn memory_of_another_length_gets_no_fresh_venue() {
     }
 }
 
-/// Each message of a text on the venue: the numbers.
+/// Each message of a text upon the venue: the numbers.
 fn numbers(venue: &mut VenueBytes, text: &str) -> Vec<u8> {
     let messages = encode_session(text).expect("a good session");
     let mut report = [0xC3; MOST_BYTES];
@@ -310,7 +310,7 @@ fn an_order_that_shows_otherwise_is_unsound() {
     }
 }
 
-/// A sweep on a venue of which this byte was changed.
+/// A sweep upon a venue of which this byte was changed.
 fn expect_unsound(bytes: [u8; VENUE_BYTES], at: usize) {
     let mut given = VenueBytes::from_bytes(bytes);
     let mut report = [0xC3; 20];
@@ -693,10 +693,6 @@ fn calls_at_once_do_not_meet() {
                     assert_eq!(sheet(&report), SHEET);
                     assert_eq!(feed(&main, &spare, &mut report), Number::DONE);
                     assert_eq!(sheet(&report), SHEET);
-                    let mut venue = VenueBytes::fresh();
-                    let came = legging::messages(&mut venue, 0, &messages, &mut report);
-                    assert_eq!(came, (Number::DONE, 6));
-                    assert_eq!(sheet(&report), SHEET);
                 }
             });
         }
@@ -716,7 +712,7 @@ fn serve_all(layer: &mut LayerBytes, list: &[Vec<u8>], report: &mut [u8]) {
     assert_eq!(turn(layer, report).venue(), None);
 }
 
-/// Does some work on a stack of so many bytes, those of the thread itself included.
+/// Does some work upon a stack of so many bytes, those of the thread itself included.
 fn upon_stack(bytes: usize, work: impl FnOnce() + Send + 'static) {
     let thread = std::thread::Builder::new().stack_size(bytes);
     let ended = thread.spawn(work).expect("a thread").join();
@@ -724,30 +720,20 @@ fn upon_stack(bytes: usize, work: impl FnOnce() + Send + 'static) {
 }
 
 #[test]
-fn a_message_and_a_run_take_less_than_24_kibibytes_of_stack() {
+fn a_stack_of_32_kibibytes_is_enough() {
     let list = generate(Profile::Sweeps, 3, 600);
     let line = line_bytes(&numbered(&list));
     let mut report = vec![0xC3; 1 << 20];
     let mut venue = Box::new(VenueBytes::fresh());
-    let mut first = vec![0xC3; VENUE_BYTES];
     // The thread and the test take 6 KiB for themselves.
-    upon_stack(30 << 10, move || {
-        assert_eq!(fresh_in(&mut first), Number::DONE);
+    upon_stack(38 << 10, move || {
         for (message, before) in list.iter().zip(0..) {
             let _ = one_message(&mut venue, before, message, &mut report);
         }
         assert_eq!(run(&list.concat(), &mut report), Number::DONE);
-        let came = legging::messages(&mut venue, 600, &list.concat(), &mut report);
-        assert_eq!(came, (Number::DONE, 600));
         assert_eq!(feed(&line, &line, &mut report), Number::DONE);
+        assert!(settings(&venue, 300).is_some());
     });
-}
-
-#[test]
-fn the_settings_take_less_than_32_kibibytes_of_stack() {
-    let venue = Box::new(VenueBytes::fresh());
-    // The thread and the test take 6 KiB for themselves.
-    upon_stack(38 << 10, move || assert!(settings(&venue, 300).is_some()));
 }
 
 #[test]
@@ -755,12 +741,8 @@ fn a_turn_takes_less_than_48_kibibytes_of_stack() {
     let list = generate(Profile::Sweeps, 3, 300);
     let mut report = vec![0xC3; MOST_BYTES];
     let mut layer = Box::new(LayerBytes::fresh());
-    let mut first = vec![0xC3; LAYER_BYTES];
     // The thread and the test take 6 KiB for themselves.
-    upon_stack(54 << 10, move || {
-        assert_eq!(layer_fresh_in(&mut first), Number::DONE);
-        serve_all(&mut layer, &list, &mut report);
-    });
+    upon_stack(54 << 10, move || serve_all(&mut layer, &list, &mut report));
 }
 
 #[test]

@@ -15,7 +15,7 @@ use std::process::Command;
 const SESSION: &str = include_str!("../../venue/tests/sessions/printed.txt");
 const EDITIONS: &str = include_str!("../../venue/tests/sessions/editions.txt");
 
-/// Does the messages of a text on a fresh venue; returns the venue and the records.
+/// Takes the messages of a text upon a fresh venue; tells it and the records.
 fn taken(text: &str) -> (Venue, Vec<Record>) {
     let mut venue = Venue::fresh();
     let mut told = Vec::new();
@@ -46,7 +46,7 @@ fn a_number_is_an_error() {
     assert_eq!(Number::CLOSED.ok(), Err(Number::CLOSED));
 }
 
-/// All that the accessors return of every venue of some sessions is what the venue holds.
+/// All that the accessors tell of every venue of some sessions is what the venue holds.
 #[test]
 fn accessors_tell_what_the_bytes_hold() {
     let (mut standing, mut set, mut away) = (0, 0, 0);
@@ -194,7 +194,7 @@ fn without_example(source: &str) -> Vec<&str> {
     missing
 }
 
-/// Whether a function is a call: it takes a venue, a set, a layer or messages, and returns a
+/// Whether a function is a call: it takes a venue, a set, a layer or messages, and tells a
 /// number, a turn or what was read.
 fn is_call(function: &str) -> bool {
     let tells = ["-> Number", "-> Turned", ", Number>", "-> Option<Settings>"];

@@ -4,7 +4,7 @@
 use legging::{one_message, Number, VenueBytes, MOST_BYTES};
 use std::path::Path;
 
-/// The most that a board may have to keep beside an archive's code.
+/// What a board may be asked to keep beside an archive's code.
 const MOST_READ_ONLY: usize = 128;
 
 const WRITE: u64 = 1;

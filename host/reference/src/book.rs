@@ -11,7 +11,7 @@ pub struct Resting {
     pub quantity: u32,
     /// What it shows now; the rest of the quantity is reserve.
     pub shown: u32,
-    /// The shown quantity that its message gave.
+    /// The shown quantity asked for at its entry.
     pub display: u32,
 }
 

@@ -1,5 +1,5 @@
-//! The calls: a run over a message list, from a fresh venue or on one that is given, one
-//! message on a venue, and the settings of a venue.
+//! The calls: a run over a message list, one message upon a venue, and the
+//! settings of a venue.
 
 use crate::books::Books;
 use crate::sound::lay_out;
@@ -19,28 +19,13 @@ enum Outcome {
 
 /// Runs a message list from a fresh venue.
 pub fn run(messages: &[u8], report: &mut [u8]) -> Returned {
-    go_on(Books::fresh(), 0, messages, Report::new(report))
-}
-
-/// Runs a message list on a venue; `before` messages went before the first of them. An
-/// empty list gets 9 too where the venue is unsound or the first number is not above
-/// every kept one.
-pub fn run_upon(venue: &Venue, before: u32, messages: &[u8], report: &mut [u8]) -> Returned {
-    let report = Report::new(report);
-    match lay_out(venue) {
-        // The first number is one more than `before`.
-        Some(books) if books.highest_kept() <= before => go_on(books, before, messages, report),
-        _ => ended(UNSOUND, venue, report),
-    }
-}
-
-/// Takes the messages of a list one by one, `before` having gone before the first.
-fn go_on(mut books: Books, before: u32, messages: &[u8], mut report: Report) -> Returned {
+    let mut books = Books::fresh();
+    let mut report = Report::new(report);
     let mut rest = messages;
-    let mut last = before;
+    let mut done: u32 = 0;
     let mut number = 0;
     while !rest.is_empty() {
-        let Some(next) = last.checked_add(1) else {
+        let Some(next) = done.checked_add(1) else {
             number = ENDED_EARLY;
             break;
         };
@@ -50,7 +35,7 @@ fn go_on(mut books: Books, before: u32, messages: &[u8], mut report: Report) -> 
             number = ENDED_EARLY;
             break;
         };
-        last = next;
+        done = next;
         let Ok(message) = first else {
             number = Refusal::Torn.number();
             break;
@@ -59,13 +44,13 @@ fn go_on(mut books: Books, before: u32, messages: &[u8], mut report: Report) -> 
     }
     Returned {
         number,
-        done: last - before,
+        done,
         written: report.finish(),
         venue: books.to_venue(),
     }
 }
 
-/// Does one message on a venue; `before` messages were done before it.
+/// Takes one message upon a venue; `before` messages went before it.
 pub fn one_message(venue: &Venue, before: u32, message: &[u8], report: &mut [u8]) -> Returned {
     let mut report = Report::new(report);
     let Some(mut books) = lay_out(venue) else {
@@ -94,7 +79,7 @@ pub fn settings(venue: &Venue, number: u32) -> Option<Settings> {
     Some(Settings::at(&books.editions, number))
 }
 
-/// A call that ended before its first message.
+/// A one-message call that ended before its message.
 fn ended(number: u8, venue: &Venue, report: Report) -> Returned {
     Returned {
         number,
@@ -150,7 +135,7 @@ fn accept(books: &mut Books, number: u32, message: Message, report: &mut Report)
     Outcome::DoesNotFit
 }
 
-/// No such message writes more bytes on these books than this.
+/// No such message writes more bytes upon these books than this.
 ///
 /// Every message has its answer, at most one 71, and one 68 for each legging
 /// order that stands. A trade uses up what one of the regular orders shows, or its
@@ -159,7 +144,7 @@ fn accept(books: &mut Books, number: u32, message: Message, report: &mut Report)
 /// is the last of an order worked, filled or with less than a unit left at a price, or
 /// uses up the size shown at a price, of which there are no more than regular orders.
 /// Each leg of an order worked makes one legging order and removes one. A limited sweep
-/// says how many it works.
+/// tells how many it works.
 fn most_bytes(books: &Books, message: &Message) -> usize {
     const TRADE: usize = 22;
     let regular = books.regular.count();

@@ -77,7 +77,7 @@ impl Lane {
         self.wait.len() <= MOST_WAITING && self.wait.iter().all(short) && !self.gets_nine()
     }
 
-    /// Whether a one-message call on the venue gets 9, whatever its message.
+    /// Whether a one-message call upon the venue gets 9, whatever its message.
     fn gets_nine(&self) -> bool {
         one_message(&self.venue, self.done, &[], &mut []).number == UNSOUND
     }

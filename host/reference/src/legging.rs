@@ -176,7 +176,7 @@ impl Books {
             return None;
         }
         // From here the price is in 1 to 100,000: a buy above it would reach
-        // the market best that the band needs.
+        // the market best that the band asks for.
         let price = price as u32;
         if !self.may_hold(leg, price, order.class) || self.would_hide(leg, price) {
             return None;

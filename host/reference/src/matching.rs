@@ -225,8 +225,8 @@ impl Books {
         self.work_all(number, 0..self.complex.len(), report);
     }
 
-    /// Looks at the resting orders after the id reached, going round, and writes the number
-    /// of orders that it looks at.
+    /// Looks at the resting orders after the id reached, going round, and tells at how
+    /// many.
     fn limited_sweep(&mut self, number: u32, most: usize, report: &mut Report) {
         let resting = self.complex.len();
         let looked = most.min(resting);

@@ -1,5 +1,5 @@
 //! Request (h): a venue and its message number as a set of records, to be written into
-//! memory and read back. Request (m) adds generations and the id reached.
+//! lent memory and read back. Request (m) adds generations and the id reached.
 
 mod read;
 mod write;

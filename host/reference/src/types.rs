@@ -147,7 +147,7 @@ impl Default for Venue {
     }
 }
 
-/// What a call that takes messages returns.
+/// What both calls return.
 #[derive(Clone, Debug, PartialEq, Eq)]
 pub struct Returned {
     pub number: u8,

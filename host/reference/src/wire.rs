@@ -294,7 +294,7 @@ fn u32_at(bytes: &[u8], at: usize) -> u32 {
 pub const ANSWER_BYTES: usize = 12;
 pub const LOOKED_BYTES: usize = 5;
 
-/// The caller's report memory, with the position of the next record.
+/// The lent report memory, with the position of the next record.
 ///
 /// A record that does not fit marks the report as overflowed; nothing of the
 /// message counts then, and `rewind` goes back to where it began.

@@ -1,6 +1,6 @@
 //! The printed session of document 01, byte by byte.
 
-use reference::{is_sound, one_message, run, run_upon, Venue};
+use reference::{is_sound, one_message, run, Venue};
 
 fn printed_session() -> Vec<Vec<u8>> {
     vec![
@@ -61,23 +61,4 @@ fn one_message_calls_write_the_printed_session() {
     assert_eq!(records, expected_report());
     let whole = run(&printed_session().concat(), &mut [0; 1024]);
     assert_eq!(venue, whole.venue);
-}
-
-#[test]
-fn lists_on_a_held_venue_write_the_printed_session() {
-    let whole = run(&printed_session().concat(), &mut [0; 1024]);
-    for length in 1..=6 {
-        let (mut venue, mut done) = (Venue::fresh(), 0);
-        let mut records = Vec::new();
-        for list in printed_session().chunks(length) {
-            let mut report = [0xA5; 1024];
-            let returned = run_upon(&venue, done, &list.concat(), &mut report);
-            assert_eq!((returned.number, returned.done), (0, list.len() as u32));
-            assert!(report[returned.written..].iter().all(|byte| *byte == 0));
-            records.extend_from_slice(&report[..returned.written]);
-            (venue, done) = (returned.venue, done + returned.done);
-        }
-        assert_eq!(records, expected_report(), "lists of {length}");
-        assert_eq!(venue, whole.venue);
-    }
 }

@@ -20,7 +20,7 @@ use crate::view::{find_complex, find_regular, shown};
 use reference::{one_message, Edition, Returned, Venue};
 use std::io::{self, BufRead};
 
-/// The most disagreements of one message that the audit prints.
+/// The most disagreements of one message that are told.
 const MOST_OF_MESSAGE: usize = 12;
 
 /// Something that does not agree.
@@ -75,7 +75,7 @@ pub struct Reserve {
     pub shown: u64,
 }
 
-/// What the audit reports as it goes.
+/// What is told as the audit goes.
 #[derive(Clone, Debug, PartialEq, Eq)]
 pub enum Told {
     Order(Row),
@@ -93,7 +93,7 @@ pub enum Source<R> {
 /// An audit that is being made.
 pub struct Auditor<R> {
     source: Source<R>,
-    /// How many messages, and how many orders, it reports as not agreeing.
+    /// How many messages, and how many orders, are told as not agreeing.
     most: u64,
     /// The venue that the reference leaves.
     venue: Venue,
@@ -133,7 +133,7 @@ pub struct Counts {
     pub most_generated: [usize; 8],
 }
 
-/// A message, as the reference does it and as the sheet has it.
+/// A message, as the reference does it and as the sheet tells it.
 struct Compared<'a> {
     number: u32,
     message: Message,
@@ -162,7 +162,7 @@ impl<R: BufRead> Auditor<R> {
         &self.counts
     }
 
-    /// What the audit has to report since the last call of this function.
+    /// What is to be told since this was asked last.
     pub fn told(&mut self) -> impl Iterator<Item = Told> {
         std::mem::take(&mut self.told).into_iter()
     }
@@ -357,8 +357,8 @@ impl<R: BufRead> Auditor<R> {
     }
 
     /// The message is entered where the sheet says that it was accepted. Where only the
-    /// reference accepts it, the audit follows its order too, so that it does not report all
-    /// that comes of the order as false.
+    /// reference accepts it, its order is followed too, so that not all that comes of it
+    /// is told as false.
     fn begin(&mut self, compared: &mut Compared, group: &Group) {
         let Compared {
             number,
@@ -434,7 +434,7 @@ impl<R: BufRead> Auditor<R> {
         }
     }
 
-    /// Reports what does not agree in a message, and the orders that are gone with it.
+    /// Tells what does not agree in a message, and the orders that are gone with it.
     fn close(&mut self, compared: Compared) {
         let number = compared.number;
         self.venue = compared.returned.venue;
@@ -459,7 +459,7 @@ impl<R: BufRead> Auditor<R> {
         }
     }
 
-    /// Reports an order with what is open of it.
+    /// Tells an order with what is open of it.
     fn tell_order(&mut self, account: Account, open: u64) {
         let fault = account.disagreement(open);
         let agrees = fault.is_none();
@@ -490,7 +490,8 @@ impl<R: BufRead> Auditor<R> {
         }
     }
 
-    /// The session ends: what the sheet still has is too much. Reports the orders that rest.
+    /// The session ends: what the sheet still has is too much, and the orders that rest
+    /// are told.
     pub fn finish(&mut self) -> io::Result<()> {
         let messages = counted(u64::from(self.counts.messages), "message");
         let instead = format!("no more answers, the session has {messages}");
@@ -513,7 +514,7 @@ impl<R: BufRead> Auditor<R> {
         Ok(())
     }
 
-    /// Reports how many disagreements were counted and not printed.
+    /// How many disagreements were counted and not told.
     fn tell_untold(&mut self) {
         let Counts {
             differing,

@@ -1,4 +1,4 @@
-//! What an audit reports, in lines and in objects of JSON.
+//! What an audit tells, in lines and in objects of JSON.
 
 use crate::audit::{Counts, Disagreement, Reserve, Row, Told};
 use crate::counted::counted;
@@ -196,7 +196,7 @@ fn edition_in_words(entry: &Edition) -> String {
 }
 
 impl Told {
-    /// The report as an object, by its type.
+    /// What is told as an object, by its type.
     pub fn object(&self) -> Object {
         match self {
             Told::Order(row) => row.object(),

@@ -120,7 +120,7 @@ fn off_increment(venue: &Venue) -> Option<(&'static str, Venue)> {
 }
 
 /// The venue with shown quantities drawn by `at`; without its legging orders where they
-/// would not stand with what is shown then.
+/// would not stand upon what is shown then.
 pub fn with_reserve(venue: &Venue, at: usize) -> Venue {
     let mut changed = venue.clone();
     for (place, order) in changed.regular.iter_mut().enumerate() {

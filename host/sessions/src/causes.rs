@@ -212,7 +212,7 @@ impl OtherLegTest {
         }
     }
 
-    /// The conditions that fail; without a clear price no other condition is tested.
+    /// The conditions that fail; without a clear price no other is asked.
     pub fn failing(&self) -> Vec<OtherLegFails> {
         let Some((net, best)) = self.net.zip(self.best) else {
             return vec![OtherLegFails::Clear];

@@ -18,7 +18,7 @@ use reference::{settings, Complex, Edition, Legging, Returned, Venue};
 /// One message as a caller saw it.
 pub struct Step<'a> {
     pub message: &'a Message,
-    /// The bytes passed to the call.
+    /// The bytes lent to the call.
     pub bytes: &'a [u8],
     pub before: &'a Venue,
     pub returned: &'a Returned,
@@ -35,7 +35,7 @@ pub struct Seen<'a> {
     pub out_of_band: Vec<OutOfBand>,
     /// Where legging in ended for less than a unit.
     pub short: Vec<ShortOfUnit>,
-    /// The trades and crosses, each looked at on the books just before it.
+    /// The trades and crosses that were looked at upon the books just before them.
     pub moments: Vec<Moment>,
 }
 
@@ -50,7 +50,7 @@ pub struct Checker {
 }
 
 impl Checker {
-    /// Follows the same orders on a venue with other generations, so many messages done.
+    /// Follows the same orders upon a venue with other generations, so many messages done.
     pub fn upon(&self, venue: &Venue, done: u32) -> Self {
         Checker {
             done,
@@ -67,7 +67,7 @@ impl Checker {
         in_force
     }
 
-    /// The settings of a venue are those that the messages have entered:
+    /// The settings that a venue tells are those that the messages have entered:
     /// at its ends and its own number, and after a setting about each one kept.
     pub fn check_settings(&self, step: &Step) -> Result<(), String> {
         let mut numbers = vec![0, self.done, u32::MAX];
@@ -95,7 +95,7 @@ impl Checker {
         self.entered.extend(entered_by(message, self.done));
     }
 
-    /// Checks one message done; returns what an accepted one did.
+    /// Checks one message done; tells what an accepted one did.
     pub fn check<'a>(&mut self, step: &Step<'a>) -> Result<Option<Seen<'a>>, String> {
         self.done += 1;
         let effects = check_answer(step, self.done)?;
@@ -145,7 +145,7 @@ impl Checker {
     }
 }
 
-/// Checks what the accepted message of a number did, by itself, and returns it.
+/// Checks what the accepted message of a number did, by itself, and tells it.
 pub fn see<'a>(step: &Step<'a>, number: u32, effects: &'a [Record]) -> Result<Seen<'a>, String> {
     check_takings(step.before, step.message, effects)?;
     let after = &step.returned.venue;
@@ -193,7 +193,7 @@ fn check_work(step: &Step, number: u32, phases: &Phases) -> Result<Work, String>
 }
 
 /// The generation's records, and the legging orders and generations left, are those of
-/// the plain rules; returns each try.
+/// the plain rules; tells each try.
 fn check_generation(step: &Step, number: u32, phases: &Phases) -> Result<Vec<Attempt>, String> {
     let after = &step.returned.venue;
     let mut view = phases.settled_view.clone();

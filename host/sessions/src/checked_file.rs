@@ -20,7 +20,7 @@ use std::fs::{self, File};
 use std::io::{self, Write};
 use std::path::{Path, PathBuf};
 
-/// The file beside a file that has its length and checksum.
+/// The file beside a file that tells its length and checksum.
 pub fn checksum_file(file: &Path) -> PathBuf {
     with_ending(file, ".sha256")
 }
@@ -39,7 +39,7 @@ pub fn write_checked(file: &Path, bytes: &[u8]) -> Result<(), String> {
         return Err(format!("{} {what}", file.display()));
     }
     let Some(name) = file.file_name() else {
-        return Err(format!("{:?} is not a file name", file.display()));
+        return Err(format!("{:?} is no name of a file", file.display()));
     };
     let sums = checksum_file(file);
     let [new_file, new_sums] = [file, &sums].map(|file| with_ending(file, ".new"));
@@ -82,8 +82,8 @@ fn not_written(file: &Path, error: &io::Error) -> String {
     format!("{} was not written: {error}", file.display())
 }
 
-/// Checks by the file beside a file that these are the bytes that were written to it; the
-/// error says what is wrong.
+/// Asks the file beside a file whether these are the bytes that were written to it; tells
+/// what is wrong.
 pub fn verify(file: &Path, bytes: &[u8]) -> Result<(), String> {
     let sums = checksum_file(file);
     let what = match fs::read(&sums) {
@@ -94,7 +94,7 @@ pub fn verify(file: &Path, bytes: &[u8]) -> Result<(), String> {
         Err(error) if error.kind() == io::ErrorKind::NotFound => "that file is missing".to_string(),
         Err(error) => error.to_string(),
     };
-    let told = format!("it is not what {} says: {what}", sums.display());
+    let told = format!("it is not what {} tells: {what}", sums.display());
     let left = with_ending(&sums, ".new");
     let tells_it = |lines: Vec<u8>| difference(&lines, bytes).is_none();
     Err(match fs::read(&left).is_ok_and(tells_it) {
@@ -108,7 +108,7 @@ pub fn verify(file: &Path, bytes: &[u8]) -> Result<(), String> {
     })
 }
 
-/// How these bytes differ from what the lines say.
+/// What of these bytes is not as the lines tell.
 fn difference(lines: &[u8], bytes: &[u8]) -> Option<String> {
     let lines: Vec<&[u8]> = lines.split(|byte| *byte == b'\n').collect();
     let (length, sum) = match lines[0].strip_prefix(b"# ") {
@@ -122,7 +122,7 @@ fn difference(lines: &[u8], bytes: &[u8]) -> Option<String> {
     let own = format!("{} bytes", bytes.len());
     if let Some(told) = length.filter(|told| *told != own.as_bytes()) {
         let told = String::from_utf8_lossy(told);
-        return Some(format!("it has {own}, not {told}"));
+        return Some(format!("it has {own}, and {told} are told"));
     }
     let differs = sha256(bytes).as_bytes() != digits;
     differs.then(|| "its checksum is another one".to_string())
@@ -184,9 +184,9 @@ mod tests {
         let folder = Folder::new("differs");
         let file = folder.file();
         let told = |bytes: &[u8]| verify(&file, bytes).unwrap_err();
-        assert!(told(b"abc").ends_with(".sha256 says: that file is missing"));
+        assert!(told(b"abc").ends_with(".sha256 tells: that file is missing"));
         write_checked(&file, b"abc").unwrap();
-        assert!(told(b"ab").ends_with("it has 2 bytes, not 3 bytes"));
+        assert!(told(b"ab").ends_with("it has 2 bytes, and 3 bytes are told"));
         assert!(told(b"abd").ends_with("its checksum is another one"));
         for lines in [
             "",

@@ -1,5 +1,5 @@
-//! Every condition of generation of a leg, each tested by itself: generation stops at the
-//! first that fails, and here those after it are tested too.
+//! Every condition of generation of a leg, each asked by itself: generation stops at the first
+//! that fails, and here those after it are asked too.
 
 use crate::view::{legs_of, ratios_allowed, Declined, View};
 use reference::{Complex, Legging, Venue};
@@ -21,7 +21,7 @@ pub struct Conditions {
     /// In the document's order: its ratios; its series open; in band; a clear price of the
     /// other leg; its displayed price in range; no worse than the book; the own price and the
     /// away price opposite not reached; its place; no other made to fail; the ceiling. None
-    /// where it cannot be tested: without a price, or of an order of unequal ratios.
+    /// where it cannot be asked: without a price, or of an order of unequal ratios.
     pub answers: [Option<Result<(), Declined>>; CONDITIONS],
     pub offered: Option<Offered>,
 }

@@ -1,11 +1,10 @@
-//! Two engines driven side by side over random sessions: the driver makes every call of both,
-//! with memory full of junk. The number, every byte of the memory and the bytes around it
+//! Two engines driven side by side over random sessions: every call is made of both, upon
+//! memory lent full of junk. The number, every byte of the memory and the bytes around it
 //! have to be the same, and an observer looks at what came.
 //!
 //! A session is named by its profile and seed alone, and so is all that is compared on it.
 
 pub mod check;
-mod held_runs;
 mod layers;
 mod own;
 mod session;
@@ -17,7 +16,7 @@ use crate::feed_generator::Feed;
 use crate::lent::Lent;
 use crate::record::{read_report_into, Record};
 use crate::set::decode_set;
-use crate::text::{decode_line, decode_session};
+use crate::text::decode_line;
 use check::{Check, Fault, Part};
 pub use own::{drive_own, Compared};
 pub use session::{drive_session, Difference, Effort};
@@ -29,8 +28,6 @@ pub struct Counts {
     pub messages: u64,
     pub runs: u64,
     pub feeds: u64,
-    /// Runs on a held venue.
-    pub held_runs: u64,
     pub calls: u64,
     /// Trades and crosses that were looked at at their moment.
     pub moments: u64,
@@ -52,7 +49,6 @@ impl Counts {
         let count = match kind.unwrap_or_default() {
             "run" => &mut self.runs,
             "feed" => &mut self.feeds,
-            "messages" => &mut self.held_runs,
             "settings" => &mut self.settings,
             "write" | "read" => &mut self.sets,
             "arrive" => &mut self.arrivals,
@@ -86,13 +82,13 @@ pub trait Observer {
     /// A session begins.
     fn begin(&mut self) {}
 
-    /// A one-message call; returns how many trades and crosses were looked at. The records
+    /// A one-message call; tells how many trades and crosses were looked at. The records
     /// and the venue left are the engine's own.
     fn called(&mut self, _call: &Call) -> Result<u64, String> {
         Ok(0)
     }
 
-    /// A run from a fresh venue or on a held one, by its number.
+    /// A run, by its number.
     fn ran(&mut self, _number: u8) {}
 
     /// Two lines with report memory of this length.
@@ -103,7 +99,7 @@ pub trait Observer {
     /// A set written of a venue on the way or a changed one, or read that was spoiled.
     fn set(&mut self, _check: Check, _number: u8) {}
 
-    /// A call on a layer.
+    /// A call upon a layer.
     fn asked(&mut self, _asked: &AskedOf) -> Checked {
         Ok(())
     }
@@ -112,26 +108,26 @@ pub trait Observer {
 /// What an observer says.
 pub type Checked = Result<(), String>;
 
-/// A call on a layer that was compared.
+/// A call upon a layer that was compared.
 pub struct AskedOf<'a> {
     pub asked: &'a Asked,
     pub given: &'a [u8],
     pub number: u8,
     /// The venue served by a turn; 4 for none.
     pub served: u8,
-    /// The layer that the session goes on from; a call beside it may be on another layer.
+    /// The layer that the session goes on from; a call beside it may be upon another.
     pub own: &'a [u8],
     /// Whether the session goes on from what is left.
     pub goes_on: bool,
 }
 
-/// The memory that the calls of an engine get.
+/// The memory that the calls of an engine are lent.
 #[derive(Default)]
 struct Memory {
     report: Lent,
     venue: Lent,
     layer: Lent,
-    /// A set, and the number that a call on a set or a run on a held venue writes.
+    /// A set, and what a call upon one tells.
     set: Lent,
     told: Lent,
     /// Main first.
@@ -139,7 +135,7 @@ struct Memory {
 }
 
 impl Memory {
-    /// Every memory has no bytes.
+    /// Nothing is lent.
     fn cleared(&mut self) -> &mut Self {
         let [main, spare] = &mut self.lines;
         let others = [&mut self.report, &mut self.venue, &mut self.layer];
@@ -163,7 +159,7 @@ pub struct Driver<'a> {
     pub counts: Counts,
 }
 
-/// What both engines returned.
+/// What both engines came to.
 struct Both {
     number: u32,
     /// Messages done and bytes written, by the records.
@@ -192,7 +188,7 @@ impl<'a> Driver<'a> {
         }
     }
 
-    /// Makes a call of both; `about` describes the call in an error.
+    /// Makes a call of both; `about` tells of it in an error.
     fn both(
         &mut self,
         check: Check,
@@ -250,8 +246,8 @@ impl<'a> Driver<'a> {
         Ok(())
     }
 
-    /// The messages done and the bytes written by the records of the report memory. What an
-    /// engine returns of them is the same, and where both return a venue, the venues are equal.
+    /// The messages done and the bytes written by the records of the report memory; what
+    /// an engine tells of them is the same, and where both tell a venue, it is one.
     fn same_told(
         &mut self,
         check: Check,
@@ -281,8 +277,8 @@ impl<'a> Driver<'a> {
         }
     }
 
-    /// The number and 256 times the venue served, with a part of the answer spoiled where the
-    /// driver's fault is of this check.
+    /// The number and 256 times the venue served, with a part of the answer spoiled if
+    /// that was asked for.
     fn spoiled(&mut self, check: Check, number: u32) -> u32 {
         let part = match self.fault {
             Some(fault) if fault.check == check => fault.part,
@@ -326,7 +322,7 @@ impl Driver<'_> {
         Ok(both)
     }
 
-    /// A feed with report memory of this length. Returns the bytes written.
+    /// A feed with report memory of this length. Tells the bytes written.
     fn feed(&mut self, check: Check, feed: &Feed, length: usize) -> Result<usize, Failed> {
         let both = self.both(
             check,
@@ -350,7 +346,7 @@ impl Driver<'_> {
         Ok(written)
     }
 
-    /// A fresh venue in venue memory of this length. Returns what is left.
+    /// A fresh venue in venue memory of this length. Tells what is left.
     fn fresh(&mut self, length: usize) -> Result<Vec<u8>, Failed> {
         self.both(
             Check::Fresh,
@@ -360,7 +356,7 @@ impl Driver<'_> {
         Ok(self.found.venue.memory().to_vec())
     }
 
-    /// A one-message call. Returns what both engines returned, and the venue left.
+    /// A one-message call. Tells what both came to, and the venue left.
     fn call(
         &mut self,
         check: Check,
@@ -400,30 +396,6 @@ impl Driver<'_> {
         seen.map(|()| (both, left))
     }
 
-    /// A run on a held venue, with report memory and memory for the number of messages done
-    /// of these lengths. Returns what both engines returned, and the venue left.
-    fn messages(
-        &mut self,
-        check: Check,
-        given: &[u8],
-        before: u32,
-        messages: &[u8],
-        [length, told]: [usize; 2],
-    ) -> Result<(Both, Vec<u8>), Failed> {
-        let both = self.both(
-            check,
-            |engine, memory| {
-                let (venue, report) = (memory.venue.hold(given), memory.report.lend(length));
-                engine.messages(venue, before, messages, report, memory.told.lend(told))
-            },
-            || format!("{before} messages before, memory of {length} and {told} bytes"),
-        );
-        let list = || decode_session(messages).trim_end().to_string();
-        let both = both.map_err(|(check, what)| (check, format!("{what}\n{}", list())))?;
-        self.observer.ran(both.number as u8);
-        Ok((both, self.found.venue.memory().to_vec()))
-    }
-
     /// Lets the observer look at a one-message call.
     fn observe(&mut self, call: &Call) -> Result<(), Failed> {
         let check = match call.check {
@@ -437,8 +409,8 @@ impl Driver<'_> {
         Ok(())
     }
 
-    /// Spoils what the observer looks at, where the driver's fault is of the replay: the records,
-    /// or the venue left, which it then returns.
+    /// Spoils what the observer looks at, if that was asked for: the records, or the venue
+    /// left, which is told then.
     fn spoil_replayed(&mut self, check: Check, left: &[u8]) -> Option<Vec<u8>> {
         let fault = self.fault.filter(|fault| fault.check == Check::Replay)?;
         if check != Check::Call {
@@ -466,7 +438,7 @@ impl Driver<'_> {
         Ok(())
     }
 
-    /// A set, in memory of these lengths. Returns the set; nothing where none is written.
+    /// A set, in memory of these lengths. Tells the set; nothing where none is written.
     fn write_set(
         &mut self,
         check: Check,
@@ -489,7 +461,7 @@ impl Driver<'_> {
         Ok(set.unwrap_or_default().to_vec())
     }
 
-    /// A set read into memory of these lengths. Returns the number, the venue, and the
+    /// A set read into memory of these lengths. Tells the number, the venue, and the
     /// memory of its message number.
     fn read_set(
         &mut self,
@@ -517,7 +489,7 @@ impl Driver<'_> {
         Ok((number, venue, told))
     }
 
-    /// A fresh layer in layer memory of this length. Returns what is left.
+    /// A fresh layer in layer memory of this length. Tells what is left.
     fn layer_fresh(&mut self, length: usize) -> Result<Vec<u8>, Failed> {
         self.both(
             Check::LayerFresh,
@@ -527,7 +499,7 @@ impl Driver<'_> {
         Ok(self.found.layer.memory().to_vec())
     }
 
-    /// A call on layer memory, or on the session's own where none is given. Returns what
+    /// A call upon layer memory, or upon the session's own where none is given. Tells what
     /// is left, and the bytes written.
     fn ask(
         &mut self,

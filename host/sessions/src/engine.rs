@@ -1,4 +1,4 @@
-//! The calls as hosts in C see them, on memory of any length: what every engine answers,
+//! The calls as hosts in C see them, upon memory of any length: what every engine answers,
 //! so that any two can be driven side by side.
 
 use crate::held::{from_bytes, to_bytes, VENUE_BYTES};
@@ -8,18 +8,18 @@ use reference::{Layer, Returned, Turned, Venue, NONE_SERVED};
 /// The venue or the layer is unsound, or its memory of another length.
 pub const UNSOUND: u8 = 9;
 
-/// The bytes of a number that a call on a set or a run on a held venue writes.
+/// The bytes of a number that a call upon a set tells.
 pub const NUMBER_BYTES: usize = 4;
 
 /// Eight increments and the percentage.
 pub const SETTINGS_BYTES: usize = 9;
 
-/// What a call returned.
+/// What a call came to.
 #[derive(Clone, Debug, Default, PartialEq, Eq)]
 pub struct Came {
     /// The number; of a turn with 256 times the venue served.
     pub number: u32,
-    /// What an engine returns beside the number; hosts in C get the number alone.
+    /// What an engine tells beside it; hosts in C are told the number alone.
     pub told: Option<Told>,
 }
 
@@ -66,8 +66,8 @@ impl From<Turned> for Came {
     }
 }
 
-/// The calls. Memory may have any length, and what it holds is junk where the call only
-/// writes it.
+/// The calls. Memory that is lent may have any length, and what it holds is junk where the
+/// call only writes it.
 pub trait Engine {
     fn run(&self, messages: &[u8], report: &mut [u8]) -> Came;
 
@@ -77,16 +77,6 @@ pub trait Engine {
     fn fresh(&self, venue: &mut [u8]) -> Came;
 
     fn message(&self, venue: &mut [u8], before: u32, message: &[u8], report: &mut [u8]) -> Came;
-
-    /// A run on a held venue; `done` is the memory for how many messages it did.
-    fn messages(
-        &self,
-        venue: &mut [u8],
-        before: u32,
-        messages: &[u8],
-        report: &mut [u8],
-        done: &mut [u8],
-    ) -> Came;
 
     fn settings(&self, venue: &[u8], number: u32, settings: &mut [u8]) -> Came;
 
@@ -101,7 +91,7 @@ pub trait Engine {
     fn turn(&self, layer: &mut [u8], report: &mut [u8]) -> Came;
 }
 
-/// The calls on values, which an engine in Rust answers; memory of another length than a
+/// The calls upon values, which an engine in Rust answers; memory of another length than a
 /// venue's or a layer's is unsound, and not looked into.
 pub trait Calls {
     fn run(&self, messages: &[u8], report: &mut [u8]) -> Returned;
@@ -109,9 +99,6 @@ pub trait Calls {
     fn feed(&self, main: &[u8], spare: &[u8], report: &mut [u8]) -> Returned;
 
     fn message(&self, venue: &Venue, before: u32, message: &[u8], report: &mut [u8]) -> Returned;
-
-    /// A run on a held venue.
-    fn messages(&self, venue: &Venue, before: u32, messages: &[u8], report: &mut [u8]) -> Returned;
 
     /// Eight increments and the percentage; nothing where the venue is unsound.
     fn settings(&self, venue: &Venue, number: u32) -> Option<[u8; SETTINGS_BYTES]>;
@@ -168,29 +155,7 @@ impl<C: Calls> Engine for C {
         returned.into()
     }
 
-    /// Where nothing was done, the venue's bytes stay as they are.
-    fn messages(
-        &self,
-        venue: &mut [u8],
-        before: u32,
-        messages: &[u8],
-        report: &mut [u8],
-        done: &mut [u8],
-    ) -> Came {
-        report.fill(0);
-        done.fill(0);
-        let (Some(given), NUMBER_BYTES) = (held(venue), done.len()) else {
-            return UNSOUND.into();
-        };
-        let returned = Calls::messages(self, &given, before, messages, report);
-        if returned.done > 0 {
-            venue.copy_from_slice(&to_bytes(&returned.venue));
-        }
-        done.copy_from_slice(&returned.done.to_le_bytes());
-        returned.into()
-    }
-
-    /// Either all settings are written or none.
+    /// Nothing is half told.
     fn settings(&self, venue: &[u8], number: u32, settings: &mut [u8]) -> Came {
         settings.fill(0);
         let told = held(venue).and_then(|venue| Calls::settings(self, &venue, number));
@@ -214,7 +179,7 @@ impl<C: Calls> Engine for C {
 
     fn read_set(&self, set: &[u8], venue: &mut [u8], number: &mut [u8]) -> Came {
         number.fill(0);
-        if venue.len() != VENUE_BYTES || number.len() != NUMBER_BYTES {
+        if Engine::fresh(self, venue).number != 0 || number.len() != NUMBER_BYTES {
             return UNSOUND.into();
         }
         let (answer, read, message) = Calls::read_set(self, set);
@@ -289,10 +254,6 @@ impl Calls for Reference {
 
     fn message(&self, venue: &Venue, before: u32, message: &[u8], report: &mut [u8]) -> Returned {
         reference::one_message(venue, before, message, report)
-    }
-
-    fn messages(&self, venue: &Venue, before: u32, messages: &[u8], report: &mut [u8]) -> Returned {
-        reference::run_upon(venue, before, messages, report)
     }
 
     fn settings(&self, venue: &Venue, number: u32) -> Option<[u8; SETTINGS_BYTES]> {

@@ -69,7 +69,7 @@ impl Explainer {
         self.step(piece, |_, _, _| ())
     }
 
-    /// Does a message, checks it, and explains what happened.
+    /// Does a message, checks it, and tells what happened.
     pub fn explain(&mut self, piece: &[u8]) -> Result<Explained, String> {
         self.step(piece, |number, step, seen| Explained {
             number,
@@ -101,14 +101,14 @@ impl Explainer {
     }
 }
 
-/// A message, and its explanation.
+/// A message, and what is told of it.
 pub struct Explained {
     pub number: u32,
     pub message: Message,
     pub lines: Vec<Line>,
 }
 
-/// What a line is about.
+/// What a line tells of.
 #[derive(Clone, Copy, Debug, PartialEq, Eq)]
 pub enum About {
     Record(Record),
@@ -124,7 +124,7 @@ pub enum About {
     Without,
 }
 
-/// A line of the explanation of a message.
+/// A line of what is told of a message.
 #[derive(Clone, Debug, PartialEq, Eq)]
 pub struct Line {
     pub about: About,
@@ -267,7 +267,7 @@ impl<'a> Told<'a> {
         }
     }
 
-    /// All lines: the records first, then what the records do not say.
+    /// All that is told: the records first, then what they do not tell.
     pub fn lines(&self) -> Vec<Line> {
         let mut takings = Takings::before(self.step.before);
         let mut lines = Vec::new();
@@ -513,7 +513,7 @@ impl<'a> Told<'a> {
         format!("removed the legging order of {id}, {leg}: cause {cause}, {why}{figures}")
     }
 
-    /// The test that a legging order failed in the settling, on the state that was
+    /// The test that a legging order failed in the settling, upon the state that was
     /// tested.
     fn standing(&self, removed: &Removed) -> Option<Standing> {
         let Removed {
@@ -558,7 +558,7 @@ impl<'a> Told<'a> {
         format!(", in band by percent {}", self.in_force.percent())
     }
 
-    /// The band is tested for a pair that legs in, not for one that a hit makes.
+    /// The band is asked of a pair that legs in, not of one that a hit makes.
     fn paired_in_band(&self) -> String {
         match self.step.message {
             Message::Order(_) => String::new(),

@@ -168,7 +168,7 @@ fn exchange(parts: &mut Parts, random: &mut Random) {
     });
 }
 
-/// Changes a message of one line, and makes sure that the other line has it.
+/// Changes a message of one line, and sees that the other has it.
 fn with_both(parts: &mut Parts, random: &mut Random, change: fn(&mut Vec<u8>, &mut Random)) {
     let Some((line, at)) = drawn(parts, random) else {
         return;

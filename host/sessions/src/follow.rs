@@ -10,7 +10,7 @@ use reference::{Complex, Venue};
 /// An order that is followed from message to message.
 pub struct Followed {
     id: u32,
-    /// Of each leg why it had no legging order, as it was reported last.
+    /// Of each leg why it had no legging order, as it was told last.
     told: [Option<String>; 2],
     /// Whether something touched it.
     pub was_touched: bool,
@@ -26,7 +26,7 @@ impl Followed {
     }
 
     /// What of a message touched the order, and why it has no legging order after it where
-    /// that changed; nothing where there is neither.
+    /// that changed; nothing where neither is told.
     pub fn touched(&mut self, mut explained: Explained, after: &Venue) -> Option<Explained> {
         let id = self.id;
         let touches = |line: &Line| line.orders.contains(&id) && line.about != About::NotGenerated;

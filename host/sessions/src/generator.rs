@@ -106,7 +106,7 @@ impl Generator {
         }
     }
 
-    /// The next message on a venue.
+    /// The next message upon a venue.
     pub fn next(&mut self, venue: &Venue) -> Vec<u8> {
         self.since_script = self.since_script.saturating_add(1);
         let due = self.shape.script_every > 0 && self.since_script > self.shape.script_every;

@@ -230,7 +230,7 @@ pub fn csv_head() -> String {
     COLUMNS.join(",") + "\n"
 }
 
-/// A record as values between commas, nothing in the columns that its kind does not have.
+/// A record as values between commas, nothing in the columns that its kind has not.
 pub fn csv_line(message: u32, record: &Record) -> String {
     let (name, names) = names(record);
     let (line, message) = (record.to_string(), message.to_string());

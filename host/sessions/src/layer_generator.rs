@@ -48,7 +48,7 @@ impl LayerGenerator {
         &mut self.random
     }
 
-    /// The next call on a layer.
+    /// The next call upon a layer.
     pub fn next(&mut self, layer: &Layer) -> Asked {
         if self.random.chance(8) {
             self.arrivals = self.random.pick(&[10, 50, 80, 95]);

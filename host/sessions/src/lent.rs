@@ -1,4 +1,4 @@
-//! Report memory as tests give it to a call: filled with junk, its neighbours guarded.
+//! Report memory as tests lend it: filled with junk, its neighbours guarded.
 
 const GUARD: usize = 24;
 const GUARD_BYTE: u8 = 0x5A;
@@ -10,7 +10,7 @@ pub struct Lent {
 }
 
 impl Lent {
-    /// Memory of no bytes, until `lend` makes some.
+    /// Memory of no bytes, until some is lent.
     pub fn new() -> Self {
         let mut lent = Lent {
             buffer: Vec::new(),
@@ -65,7 +65,7 @@ impl Lent {
             return Err("bytes outside the report memory were written".to_string());
         }
         if written > self.length {
-            return Err("the call returned more bytes than the report memory has".to_string());
+            return Err("more bytes were told than the report memory has".to_string());
         }
         let (records, rest) = self.memory().split_at(written);
         // Without an early end the bytes are looked at many at a time.

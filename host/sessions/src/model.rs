@@ -1,6 +1,6 @@
 //! What a message is answered and what its work does, by the plainest reading
 //! of documents 01 and 02: every choice looks at all orders, every price is worked
-//! out again. It is slow, and shares nothing with the reference but its types.
+//! out anew. It is slow, and shares nothing with the reference but its types.
 
 use crate::message::{first_whole, Leg, Message, NewComplex, NewOrder};
 use crate::ranges::{out_of_range, refused_field};
@@ -206,7 +206,7 @@ pub fn work(before: &Venue, message: &Message, number: u32) -> Work {
     work
 }
 
-/// The ids that a limited sweep looks at when it starts on a venue: those above the id
+/// The ids that a limited sweep looks at when it starts upon a venue: those above the id
 /// reached, rising, then round to the others.
 pub fn looked_at(venue: &Venue, most: u8) -> Vec<u32> {
     let ids = || held_complex(venue).map(|order| order.id);
@@ -454,7 +454,7 @@ impl Work {
         while self.leg_in(id) {}
     }
 
-    /// Whether a net of a party is in band; notes where the percentage forbids it.
+    /// Whether a net of a party is in band; tells where the percentage forbids it.
     fn in_band(&mut self, id: u32, maker: Option<u32>, party: &Complex, net: i64) -> bool {
         let view = View::of(&self.venue);
         let parts = parts_of(party);
@@ -506,7 +506,7 @@ impl Work {
         })
     }
 
-    /// The orders that this one may cross with, both nets in band; notes who else
+    /// The orders that this one may cross with, both nets in band; tells who else
     /// would be one but for the prices of a party's legs.
     fn candidates(&mut self, taker: &Complex) -> Vec<Complex> {
         let mut candidates = self.reversed(taker);

@@ -1,5 +1,5 @@
 //! Request (i): no better price is passed over. Every trade and every cross is looked at
-//! on the books just before it, all that was written before it done.
+//! upon the books just before it, all that was written before it done.
 
 use crate::message::{Leg, Message};
 use crate::record::{Record, Trade};
@@ -34,11 +34,11 @@ impl Parties {
     ];
 }
 
-/// A record looked at on the books just before it.
+/// A record looked at upon the books just before it.
 #[derive(Clone, Copy, Debug, PartialEq, Eq)]
 pub struct Moment {
     pub parties: Parties,
-    /// Whether there was something to choose: another price on the side taken, or
+    /// Whether there was something to ask for: another price on the side taken, or
     /// regular prices at both legs of a party of a cross.
     pub had_choice: bool,
 }
@@ -163,7 +163,7 @@ fn part_net(books: &Books, part: Part) -> Option<i64> {
     Some(part.of_net(best))
 }
 
-/// Replays an accepted message's records after its 64 on the venue before it: each
+/// Replays an accepted message's records after its 64 upon the venue before it: each
 /// trade and cross at its moment; and the books that they lead to are the venue left.
 pub fn check_moments(
     before: &Venue,
@@ -190,7 +190,7 @@ pub fn check_moments(
     }
 }
 
-/// Looks at a record on the books just before it, and notes it in them; returns what it
+/// Looks at a record upon the books just before it, and notes it in them; tells what it
 /// passed over, and what of it the books do not have.
 pub fn look_at(books: &mut Books, record: &Record) -> (Option<Moment>, Vec<String>) {
     let moment = Moment::of(books, record);

@@ -1,6 +1,6 @@
 //! The data of a page that shows a session message by message: what happened in words, the
 //! records, and the books before the first message with what each message changes in them.
-//! Every figure that a page shows is worked out here.
+//! Every figure that a page tells is worked out here.
 //!
 //! ```text
 //! name, messages        the session's name and how many messages it has
@@ -21,7 +21,7 @@
 //! sheet                 of a sheet given: its name, the messages that differ, how many they
 //!                       are, its last message, its lines that answer none
 //! ```
-//! `state.rs` and `sums.rs` make the parts of a state and describe them.
+//! The parts of a state are told where they are made, in `state.rs` and `sums.rs`.
 
 mod given;
 mod json;
@@ -152,7 +152,7 @@ struct Walk<'a> {
     given: Option<Given>,
     words: Words,
     sums: Sums,
-    /// The state before the first message shown, and the last state written.
+    /// The state before the first message shown, and the last state told.
     start: Json,
     state: Json,
     others: usize,

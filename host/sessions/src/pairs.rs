@@ -12,7 +12,7 @@ pub struct Pairs {
 }
 
 impl Pairs {
-    /// One record of the message; for a 66 that is not its trades, it returns the reason.
+    /// One record of the message; of a 66 that is not its trades, it tells why.
     pub fn note(&mut self, ledger: &Ledger, record: &Record) -> Option<String> {
         match record {
             Record::Trade(trade) => {
@@ -113,7 +113,7 @@ mod tests {
     use crate::record::parse_sheet;
     use crate::text::parse_session;
 
-    /// What is reported of the records of a message on two complex orders.
+    /// What is told of the records of a message upon two complex orders.
     fn told(sheet: &str) -> Vec<String> {
         let text = "complex 3 buy 0 buy 1 class 1 net 205 quantity 8\n\
             complex 4 buy 0 sell 1 class 1 net 300 quantity 8 ratio 3 1\n";

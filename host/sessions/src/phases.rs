@@ -6,7 +6,7 @@ use crate::record::{Generated, Record, Removed};
 use crate::view::{find_complex, held_complex, leg_at, legs_of, place_of, Declined, View};
 use reference::{Complex, Legging, Venue};
 
-/// What the records of an accepted message say of its legging orders.
+/// What the records of an accepted message tell of its legging orders.
 pub struct Phases<'a> {
     pub work: &'a [Record],
     /// The state that the settling tested.
@@ -66,7 +66,7 @@ pub fn phases<'a>(
     })
 }
 
-/// Takes a removed legging order out of the view; returns its place and cause.
+/// Takes a removed legging order out of the view; tells its place and cause.
 fn take_away(view: &mut View, record: &Record) -> Result<Option<(usize, u8)>, String> {
     let Record::Removed(gone) = record else {
         return Ok(None);
@@ -149,7 +149,7 @@ pub fn expected_generation(
 }
 
 impl View {
-    /// Puts a legging order in its place; returns the records of it.
+    /// Puts a legging order in its place; tells the records of it.
     fn make(&mut self, leg: Leg, made: Legging) -> impl Iterator<Item = Record> {
         let Leg { series, side } = leg;
         let replaced = self.standing(leg).map(|holder| {

@@ -32,7 +32,7 @@ const SHORT_MEMORY: u8 = 15;
 pub struct Plain;
 
 /// The refusal of a message or 0, the venue left and the records, of the message with this
-/// number on a sound venue. `left` is all that is left to read.
+/// number upon a sound venue. `left` is all that is left to read.
 fn done(venue: &Venue, number: u32, left: &[u8]) -> (u8, Venue, Vec<Record>) {
     let refusal = refusal(venue, left);
     let (after, effects) = match (refusal, first_whole(left)) {
@@ -99,35 +99,27 @@ impl<'a> Report<'a> {
     }
 }
 
-/// Does the messages of a list on a sound venue; `before` messages were done before the first.
-fn run_from(venue: Venue, before: u32, messages: &[u8], report: &mut [u8]) -> Returned {
-    let mut report = Report::new(report);
-    let mut returned = returned(0, 0, 0, venue);
-    let mut rest = messages;
-    while !rest.is_empty() {
-        let Some(number) = before.checked_add(returned.done + 1) else {
-            returned.number = NO_ROOM;
-            break;
-        };
-        let (refusal, venue, records) = done(&returned.venue, number, rest);
-        if !report.write(&records) {
-            returned.number = NO_ROOM;
-            break;
-        }
-        (returned.done, returned.venue) = (returned.done + 1, venue);
-        if refusal == TORN {
-            returned.number = TORN;
-            break;
-        }
-        rest = &rest[first_whole(rest).map_or(rest.len(), <[u8]>::len)..];
-    }
-    returned.written = report.written;
-    returned
-}
-
 impl Calls for Plain {
     fn run(&self, messages: &[u8], report: &mut [u8]) -> Returned {
-        run_from(Venue::fresh(), 0, messages, report)
+        let mut report = Report::new(report);
+        let mut returned = returned(0, 0, 0, Venue::fresh());
+        let mut rest = messages;
+        while !rest.is_empty() {
+            let number = returned.done + 1;
+            let (refusal, venue, records) = done(&returned.venue, number, rest);
+            if !report.write(&records) {
+                returned.number = NO_ROOM;
+                break;
+            }
+            (returned.done, returned.venue) = (number, venue);
+            if refusal == TORN {
+                returned.number = TORN;
+                break;
+            }
+            rest = &rest[first_whole(rest).map_or(rest.len(), <[u8]>::len)..];
+        }
+        returned.written = report.written;
+        returned
     }
 
     /// The run of the list handed out, with the number of what stopped it where that was
@@ -153,16 +145,6 @@ impl Calls for Plain {
         match report.write(&records) {
             true => returned(refusal, 1, report.written, after),
             false => returned(NO_ROOM, 0, 0, venue.clone()),
-        }
-    }
-
-    fn messages(&self, venue: &Venue, before: u32, messages: &[u8], report: &mut [u8]) -> Returned {
-        match call_fault(venue, before) {
-            Some(_) => {
-                report.fill(0);
-                returned(UNSOUND, 0, 0, venue.clone())
-            }
-            None => run_from(venue.clone(), before, messages, report),
         }
     }
 

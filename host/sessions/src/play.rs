@@ -1,10 +1,10 @@
-//! A script of arrivals and turns, played on a fresh layer.
+//! A script of arrivals and turns, played upon a fresh layer.
 
 use crate::asked::{Asked, ENOUGH};
 use crate::record::{read_report, Record};
 use reference::{arrive, turn, Layer, VENUES};
 
-/// What a script led to.
+/// What a script came to.
 pub struct Played {
     /// Each venue's records.
     pub sheets: [Vec<Record>; VENUES],

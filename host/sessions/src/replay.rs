@@ -1,5 +1,5 @@
 //! The books as a reader of the sheet keeps them: from a venue, the messages accepted
-//! and the records, one by one. They apply no rule; they do what a record says.
+//! and the records, one by one. No rule is asked; what a record says is done.
 
 use crate::explain::leg_name;
 use crate::message::{Leg, Message, NewOrder};
@@ -144,7 +144,7 @@ impl Books {
 
 /// The records, one by one.
 impl Books {
-    /// One record more. An error says what of it these books do not have; all else of
+    /// One record more. An error tells what of it these books do not have; all else of
     /// it is noted.
     pub fn note(&mut self, record: &Record) -> Result<(), String> {
         match *record {
@@ -303,9 +303,9 @@ fn enough(id: u32, left: u32, quantity: u32) -> Result<(), String> {
     }
 }
 
-/// The books in words, to say where two differ.
+/// The books in words, to tell where two differ.
 impl Books {
-    /// What these books have and a venue does not, or the other way round.
+    /// What these books have and a venue has not, or the other way round.
     pub fn difference(&self, venue: &Venue) -> Option<String> {
         let left = Books::of(venue);
         if *self == left {

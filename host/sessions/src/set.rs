@@ -85,7 +85,7 @@ impl Entry {
         }
     }
 
-    /// Reads one record; bytes that are no record of a set at its length stay raw.
+    /// Reads one record; what is none of a set at its length stays raw.
     pub fn decode(bytes: &[u8]) -> Entry {
         let raw = || Entry::Raw(bytes.to_vec());
         if first_whole(bytes).map(<[u8]>::len) != Some(bytes.len()) {

@@ -23,7 +23,7 @@ pub fn bytes_of(entries: &[Entry]) -> Vec<u8> {
     entries.iter().flat_map(Entry::encode).collect()
 }
 
-/// The short set of what a set has: edition 0, all size shown, none generated. Its
+/// The short set of what a set tells: edition 0, all size shown, none generated. Its
 /// venue may be unsound then.
 pub fn short_of(set: &[u8]) -> Vec<u8> {
     let shortened = entries(set).into_iter().filter_map(|entry| match entry {

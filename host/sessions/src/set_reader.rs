@@ -1,4 +1,4 @@
-//! What is wrong with a set, in words: a second reader of sets, record by record,
+//! What is wrong with a set, told in words: a second reader of sets, record by record,
 //! apart from the reference's.
 
 use crate::message::{Message, NewComplex, NewOrder};
@@ -83,7 +83,7 @@ fn above_its_own(venue: &Venue, number: u32) -> Option<String> {
     Some(format!("message {above} is above the set's own, {number}"))
 }
 
-/// A field that no venue has a place for: of the record looked at, or of one before it.
+/// A field that no venue has a place for: of the record looked at, or told before.
 enum Unplaced {
     Now(String),
     At(usize, String),
@@ -156,7 +156,7 @@ impl Looking {
             (_, Entry::Legging { .. }) => self.take_legging(&entry),
             (_, Entry::Generated { series, number }) => self.take_generated(*series, *number),
             (_, Entry::Reached { id }) => self.take_reached(*id),
-            _ => Err(format!("{entry} is out of order here")),
+            _ => Err(format!("{entry} stands before what comes before it here")),
         }
     }
 
@@ -242,7 +242,7 @@ impl Looking {
         }
     }
 
-    /// A field that no venue has a place for; the first such field is reported.
+    /// A field that no venue has a place for; the first is told.
     fn require(&mut self, has_place: bool, what: &str) -> bool {
         if !has_place && self.unplaced.is_none() {
             self.unplaced = Some(Unplaced::Now(what.to_string()));
@@ -361,7 +361,7 @@ impl Looking {
     fn take_reached(&mut self, id: u32) -> Taken {
         self.only_whole("id reached")?;
         if self.part == Part::Reached {
-            return Err("the id reached is there already".to_string());
+            return Err("the id reached is told already".to_string());
         }
         self.enter(Part::Reached)?;
         self.require(id > 0, "id 0 reached");
@@ -370,7 +370,7 @@ impl Looking {
     }
 }
 
-/// Counts one more of a part; returns how many were before.
+/// Counts one more of a part; tells how many were before.
 fn one_more(count: &mut usize, most: usize, name: &str) -> Result<usize, String> {
     if *count == most {
         return Err(format!("a set has at most {most} {name}"));

@@ -47,7 +47,7 @@ impl InForce {
         in_force
     }
 
-    /// What holds for the next message on a venue.
+    /// What holds for the next message upon a venue.
     pub fn of(venue: &Venue) -> Self {
         InForce::at(venue, u32::MAX)
     }

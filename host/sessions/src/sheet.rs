@@ -2,7 +2,7 @@
 
 use crate::asked::ENOUGH;
 use crate::record::{read_report, read_report_into, Record};
-use reference::{feed, one_message, run, run_upon, Returned, Venue};
+use reference::{feed, one_message, run, Returned, Venue};
 
 /// The most bytes that the printing program reads.
 pub const MOST_INPUT: usize = 65_536;
@@ -19,10 +19,7 @@ pub fn feed_whole(main: &[u8], spare: &[u8]) -> (Returned, Vec<u8>) {
     with_room(main.len() + spare.len(), |report| feed(main, spare, report))
 }
 
-/// The most messages of a list that [`Running::take_list`] takes.
-pub const MOST_LIST: usize = 100;
-
-/// A run that takes its messages one by one, or in lists.
+/// A run that takes its messages one by one.
 pub struct Running {
     venue: Venue,
     before: u32,
@@ -35,7 +32,7 @@ impl Running {
         Running::upon(Venue::fresh(), 0)
     }
 
-    /// A run that goes on from a venue on which `before` messages were done.
+    /// A run that goes on upon a venue, `before` messages of which were done.
     pub fn upon(venue: Venue, before: u32) -> Self {
         Running {
             venue,
@@ -56,20 +53,9 @@ impl Running {
         self.before += returned.done;
         Ok(Some(&self.records))
     }
-
-    /// The records of the next messages, at most [`MOST_LIST`] of them, by one run on the
-    /// venue; and whether all were done: where not, the message numbers are used up.
-    pub fn take_list(&mut self, list: &[u8]) -> Result<(&[Record], bool), String> {
-        self.report.resize(MOST_LIST * ENOUGH as usize, 0);
-        let returned = run_upon(&self.venue, self.before, list, &mut self.report);
-        read_report_into(&self.report[..returned.written], &mut self.records)?;
-        self.venue = returned.venue;
-        self.before += returned.done;
-        Ok((&self.records, returned.number != ENDED_EARLY))
-    }
 }
 
-/// A call on message bytes, made again with more report memory until it is enough.
+/// A call upon message bytes, made again with more report memory until it is enough.
 fn with_room(bytes: usize, mut call: impl FnMut(&mut [u8]) -> Returned) -> (Returned, Vec<u8>) {
     let mut report = vec![0; 64 * 1024 + 16 * bytes];
     loop {

@@ -13,7 +13,7 @@ const MOST_OF_LINE: u64 = 4_096;
 /// The most lines of one answer that are kept, more than any message writes.
 const MOST_LINES: usize = 2_048;
 
-/// How many answers are looked at to find whose the first of them is.
+/// How many answers are looked at to tell whose the first of them is.
 const AHEAD: usize = 8;
 
 /// A line that is no record.

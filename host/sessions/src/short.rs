@@ -27,7 +27,7 @@ pub fn parse_list(text: &str) -> Result<Vec<Vec<u8>>, String> {
             return Err(format!("line {number}: {what}, found another"));
         }
         if !is_whole(&piece) {
-            let what = "its length field is not its number of bytes";
+            let what = "its length field does not tell its bytes";
             return Err(format!("line {number}: {what}"));
         }
         pieces.push(piece);
@@ -144,7 +144,7 @@ mod tests {
         );
         assert_eq!(
             parse_list("sweep\nraw 05 00 06 00\n").unwrap_err(),
-            "line 2: its length field is not its number of bytes"
+            "line 2: its length field does not tell its bytes"
         );
         assert!(parse_list("sweep\nswep\n")
             .unwrap_err()

@@ -50,7 +50,7 @@ pub fn drawn(generator: Generator, messages: usize) -> Vec<Vec<u8>> {
     Drawn::by(generator, messages as u64).collect()
 }
 
-/// Messages that a generator draws one by one, each for the venue that those before it
+/// Messages that a generator draws one by one, each upon the venue that those before it
 /// left.
 pub struct Drawn {
     generator: Generator,
@@ -62,7 +62,7 @@ pub struct Drawn {
 
 impl Drawn {
     /// The messages of a session. Where it is longer than those of the checks, its ids
-    /// last for as many messages as the caller wants.
+    /// last for as many messages as can be asked for.
     pub fn new(profile: Profile, seed: u64, messages: u64) -> Self {
         let generator = Generator::new(profile, seed);
         match messages > LONG {

@@ -15,7 +15,7 @@ pub enum Form {
     Text,
 }
 
-/// The most bytes that a message's length can say.
+/// The most bytes that a message's length can tell.
 const MOST_MESSAGE: usize = 65_535;
 
 /// How much is read at a time.
@@ -24,7 +24,7 @@ const CHUNK: usize = 65_536;
 /// The most bytes of a line of text: more than a message as `raw` takes.
 const MOST_LINE: usize = 1 << 20;
 
-/// The error for bytes that look like text.
+/// What is told of bytes that look like text.
 pub const LOOKS_LIKE_TEXT: &str =
     "this looks like text: use --text, or --bytes to take it as bytes";
 
@@ -51,7 +51,7 @@ pub fn looks_like_text(bytes: &[u8]) -> bool {
     !text.is_empty() && text.chars().all(is_printable)
 }
 
-/// The bytes of a session, read bit by bit. Errors name the line, not the file.
+/// The bytes of a session, read bit by bit. Errors tell the line, not the file.
 pub struct Bytes<R> {
     input: R,
     form: Form,
@@ -62,9 +62,9 @@ pub struct Bytes<R> {
     /// Whether something was read.
     begun: bool,
     ended: bool,
-    /// How many more bytes are wanted.
+    /// How many more bytes are asked for.
     left: u64,
-    /// Whether there are more bytes than were wanted.
+    /// Whether there are more bytes than were asked for.
     cut: bool,
 }
 
@@ -87,7 +87,7 @@ impl<R: Read> Bytes<R> {
         Bytes { left, ..self }
     }
 
-    /// Whether there are more bytes than were wanted.
+    /// Whether there are more bytes than were asked for.
     pub fn is_cut(&self) -> bool {
         self.cut
     }
@@ -178,7 +178,7 @@ fn line_bytes(line: &[u8], number: usize) -> Result<Vec<u8>, String> {
     encode_text_line(text, number).map_err(|error| error.to_string())
 }
 
-/// The messages of a session, read bit by bit. Errors name the line or the message, not
+/// The messages of a session, read bit by bit. Errors tell the line or the message, not
 /// the file.
 pub struct Messages<R> {
     bytes: Bytes<R>,
@@ -228,26 +228,12 @@ impl<R: Read> Messages<R> {
         Ok(Some(&self.held[from..self.at]))
     }
 
-    /// The next messages, at most so many, one after another, and what is wrong after them;
-    /// no bytes at the end.
-    pub fn next_list(&mut self, most: usize) -> (Vec<u8>, Result<(), String>) {
-        let mut list = Vec::new();
-        for _ in 0..most {
-            match self.next() {
-                Ok(Some(message)) => list.extend_from_slice(message),
-                Ok(None) => break,
-                Err(what) => return (list, Err(what)),
-            }
-        }
-        (list, Ok(()))
-    }
-
     /// How many messages were taken.
     pub fn taken(&self) -> u64 {
         self.taken
     }
 
-    /// Whether there are more bytes than were wanted.
+    /// Whether there are more bytes than were asked for.
     pub fn is_cut(&self) -> bool {
         self.bytes.is_cut()
     }
@@ -377,23 +363,6 @@ mod tests {
         assert_eq!(short[1].len(), 65_535);
         let longest = [&[255, 255, 6, 0][..], &vec![0; 65_531]].concat();
         assert_eq!(pieces(&longest, Form::Bytes, 999), Ok(vec![longest]));
-    }
-
-    #[test]
-    fn lists_are_the_messages_one_after_another() {
-        let text = "sweep\nlimited 4\nsweep\nopen 0\nswep\n";
-        let mut messages = Messages::new(Bytes::new(Drops(text.as_bytes(), 5), Form::Text));
-        let mut lists = || messages.next_list(3);
-        let (first, fault) = lists();
-        assert_eq!((split(&first).len(), fault), (3, Ok(())));
-        let (second, fault) = lists();
-        assert_eq!(split(&second).len(), 1);
-        let told = fault.expect_err("the last line is no message");
-        assert!(told.starts_with("line 5: expected a message ("), "{told}");
-        let sweeps = [4, 0, 6, 0].repeat(5);
-        let mut messages = Messages::new(Bytes::new(&sweeps[..18], Form::Bytes));
-        let lengths = [(); 4].map(|()| messages.next_list(2).0.len());
-        assert_eq!(lengths, [8, 8, 2, 0]);
     }
 
     #[test]

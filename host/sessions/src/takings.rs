@@ -136,7 +136,7 @@ mod tests {
     use crate::text::{encode_session, parse_session};
     use reference::run;
 
-    /// Checks trades of a message on what a session leaves.
+    /// Checks trades of a message upon what a session leaves.
     fn checked(session: &str, message: &str, sheet: &str) -> Result<(), String> {
         let venue = run(&encode_session(session).unwrap(), &mut [0; 4096]).venue;
         let message = &parse_session(message).unwrap()[0];

@@ -1,4 +1,4 @@
-//! Request (m) from what a caller sees: the ceiling on records 67, what a 72 says, and the
+//! Request (m) from what a caller sees: the ceiling on records 67, what a 72 tells, and the
 //! round that limited sweeps go.
 
 use crate::check::Step;
@@ -12,7 +12,7 @@ use std::iter::{repeat, repeat_n};
 /// The most records 67 of a series in any 256 consecutive messages.
 pub const CEILING: usize = 20;
 
-/// What the records of a list said of its legging orders.
+/// What the records of a list told of its legging orders.
 #[derive(Clone, Default)]
 pub struct Traffic {
     /// Of each series the messages with a record 67 and how many they have: those of the
@@ -37,7 +37,7 @@ impl Traffic {
         self.made = Traffic::of(venue).made;
     }
 
-    /// One record of the message of a number; for a 67 it returns how many of its series there
+    /// One record of the message of a number; of a 67 it tells how many of its series there
     /// are in the 256 messages that end with this one.
     pub fn note(&mut self, number: u32, record: &Record) -> Option<usize> {
         let Record::Generated(told) = record else {
@@ -149,7 +149,7 @@ mod tests {
         complex 5 buy 0 buy 1 class 1 net 5 quantity 1\n\
         complex 9 buy 0 buy 1 class 1 net 5 quantity 1\n";
 
-    /// Checks a message of number 4 on three orders at rest, by its sheet and the id that
+    /// Checks a message of number 4 upon three orders at rest, by its sheet and the id that
     /// it reaches.
     fn checked(from: u32, message: &Message, sheet: &str, to: u32) -> Result<(), String> {
         let list = encode_session(RESTING).unwrap();

@@ -46,7 +46,7 @@ impl Arguments {
         }
     }
 
-    /// Separates words from options.
+    /// Tells words and options apart.
     fn look_at(&self, word: &OsStr) -> Result<Read, Failure> {
         let bytes = word.as_bytes();
         if bytes.len() < 2 || bytes[0] != b'-' {
@@ -89,7 +89,7 @@ impl Arguments {
         Ok(())
     }
 
-    /// The name of the command, as errors print it.
+    /// The name of the command, as errors tell it.
     pub fn name(&self) -> String {
         format!("venue {}", self.command.name)
     }
@@ -133,7 +133,7 @@ impl Arguments {
         number.ok_or_else(|| usage(format!("expected a number after {name}, found {value:?}")))
     }
 
-    /// The first and the last message by `--from` and `--to`.
+    /// The first and the last message that `--from` and `--to` ask for.
     pub fn messages(&self) -> Result<(u64, u64), Failure> {
         let from = self.number("--from", Some(1))?;
         let to = self.number("--to", Some(u64::MAX))?;
@@ -150,7 +150,7 @@ impl Arguments {
     pub fn either(&self, first: &str, second: &str) -> Result<(bool, bool), Failure> {
         match (self.has(first), self.has(second)) {
             (true, true) => Err(usage(format!(
-                "only one of {first} and {second} is allowed"
+                "only one of {first} and {second} can be asked for"
             ))),
             asked => Ok(asked),
         }

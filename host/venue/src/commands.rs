@@ -35,7 +35,7 @@ pub struct Command {
     pub valued: &'static [&'static str],
     /// The most words beside the options.
     pub words: usize,
-    /// What `venue help NAME` prints after the form.
+    /// What `venue help NAME` tells after the form.
     pub help: fn() -> String,
     pub perform: fn(&Arguments, &mut Out) -> Outcome,
 }
@@ -72,7 +72,7 @@ pub fn find(name: &OsStr) -> Option<&'static Command> {
         .find(|command| name == command.name)
 }
 
-/// The name that errors of a command line print, and where to read more.
+/// The name that errors of a command line tell, and where to read more.
 pub fn told_name(words: &[OsString]) -> (String, String) {
     match words.first().and_then(|name| find(name)) {
         Some(Command { name, .. }) => (format!("venue {name}"), format!("venue help {name}")),
@@ -80,7 +80,7 @@ pub fn told_name(words: &[OsString]) -> (String, String) {
     }
 }
 
-/// Does what a command line says.
+/// Does what a command line asks for.
 pub fn perform(words: &[OsString], out: &mut Out) -> Outcome {
     let Some((name, rest)) = words.split_first() else {
         return Err(usage("expected a command".to_string()));

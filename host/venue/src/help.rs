@@ -1,25 +1,25 @@
-//! The help texts that belong to no single command, and how to print those of the commands.
+//! The help texts that are of no command alone, and how those of the commands are told.
 
 use crate::commands::{Command, COMMANDS};
 use crate::json_form::JSON_FORM;
 use std::ffi::OsStr;
 
-/// The column where the overview says what a command does.
+/// Where the overview tells what a command does.
 const COLUMN: usize = 40;
 
 // Without a line break first: that would take the blanks of the line after it away.
 const END: &str =
-    "  venue help [COMMAND | TOPIC]          this text, or more on one command or topic
+    "  venue help [COMMAND | TOPIC]          this text, or more of one command or topic
   venue --version                       the version
 
-Without FILE, or with -, a command reads standard input. A session is message bytes;
+Where FILE is left out or is -, standard input is read. A session is message bytes;
 with --text it is text, one message a line. Bytes that look like text are an error;
 --bytes takes them as bytes. An option's value may follow it or a =, as --seed=7; what
-follows -- is a file's name. Every command says more with --help or -h.
+follows -- is a file's name. Every command tells more with --help or -h.
 
-If the input is wrong, a command drops up to 64 KiB of output; of a longer output it has
-written the first part. The exit status is 0 for success, 1 for bad input or something
-that does not agree, 2 for a wrong command line, 141 if nobody reads the output any more.
+Where the input is wrong, up to 64 KiB of output are not written, and of more there is
+the first part. The exit status is 0 for success, 1 for bad input or something that does
+not agree, 2 for a wrong command line, 141 where nobody reads the output any more.
 ";
 
 pub const TEXT_FORM: &str = "\
@@ -39,8 +39,8 @@ The text form, one message a line:
   raw HEX HEX ...           any bytes, two hexadecimal digits each
 
 SIDE is buy, sell or side=NUMBER. STATUS is open, closed, auction or
-status=NUMBER. A field takes any number that fits its width, so a session can
-have messages that are refused. # begins a comment; blank lines are skipped.
+status=NUMBER. Any number that fits its field's width may be written, so that
+refused messages can be too. # begins a comment; blank lines are passed over.
 
 A line of a feed has each message after its number, in bytes a u32:
 
@@ -69,7 +69,7 @@ A set in text, one record a line, in this order:
 A short set has no editions, no generated and no reached, and its orders show all.
 ";
 
-/// Help for a word that is no command.
+/// Help that is asked for by a word which is no command.
 const TOPICS: [(&str, fn() -> String); 2] = [
     ("text", || format!("{TEXT_FORM}\n{SET_FORM}")),
     ("json", || JSON_FORM.to_string()),

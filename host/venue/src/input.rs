@@ -1,4 +1,4 @@
-//! Files that are read; every error of one names it.
+//! Files that are read, each named in what is told of it.
 
 use crate::Failure;
 use sessions::stream::{looks_like_text, without_mark};
@@ -39,7 +39,7 @@ impl<'a> Input<'a> {
         (!self.is_standard()).then_some(Path::new(self.file))
     }
 
-    /// Its name, as errors print it.
+    /// Its name, as errors tell it.
     pub fn name(self) -> String {
         match self.is_standard() {
             true => "standard input".to_string(),

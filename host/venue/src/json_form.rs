@@ -21,7 +21,7 @@ A record:
 
 venue sheet --json: a record on each line, after the number of its message as message.
 venue sheet --csv: the same as values between commas. The first line has the names; a
-record has nothing in the columns that its kind does not have.
+record has nothing in the columns that its kind has not.
 
 venue explain --json: a message on each line:
 
@@ -40,7 +40,7 @@ venue explain --json: a message on each line:
                       bytes that are no message have no kind, the name raw, and bytes in
                       hexadecimal
   records             a list of its records, each with words, and figures where they decided
-  more                a list of what the records do not show, each with about (shows,
+  more                a list of what the records do not tell, each with about (shows,
                       setting, not_made, not_generated, without), orders (ids) and words
 
 The figures of a removal (68) by a settling, and of refusal 4:

@@ -15,7 +15,7 @@ use std::ffi::OsString;
 use std::io::ErrorKind;
 use std::process::ExitCode;
 
-/// The status of a program whose reader left, as a shell reports it.
+/// The status of a program whose reader left, as a shell tells it.
 const READER_LEFT: u8 = 141;
 
 /// Why a command did not succeed.
@@ -24,20 +24,20 @@ pub enum Failure {
     Usage(String),
     /// The input was wrong.
     Input(String),
-    /// The output is good and reports something that does not agree.
+    /// The output is good and tells of something that does not agree.
     Disagreement(String),
     /// The output was not written.
     Output(std::io::Error),
 }
 
 impl From<std::io::Error> for Failure {
-    /// Of writing; errors of reading have the file's name.
+    /// Of writing; what goes wrong in reading is told with the file's name.
     fn from(error: std::io::Error) -> Self {
         Failure::Output(error)
     }
 }
 
-/// How a command ended.
+/// What a command came to.
 pub type Outcome = Result<(), Failure>;
 
 fn main() -> ExitCode {

@@ -36,8 +36,8 @@ impl Write for Out {
     }
 }
 
-/// Prints something on standard error, after the name of the program. It ignores an error:
-/// then nobody reads standard error.
+/// Tells something on standard error, after the name of who tells it. Where nobody reads
+/// that, there is nobody to tell.
 pub fn tell(name: &str, what: &str) {
     let _ = writeln!(io::stderr(), "{name}: {what}");
 }

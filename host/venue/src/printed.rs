@@ -16,7 +16,7 @@ pub enum Printed {
 }
 
 impl Printed {
-    /// As `--json` or `--csv` say; the columns of the latter are named first.
+    /// As `--json` or `--csv` ask for; the columns of the latter are named first.
     pub fn begin(arguments: &Arguments, out: &mut Out) -> Result<Self, Failure> {
         Ok(match arguments.either("--json", "--csv")? {
             (true, _) => Printed::Json(0),

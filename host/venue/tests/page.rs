@@ -18,7 +18,7 @@ fn good(arguments: &[&str], input: &str) -> String {
     String::from_utf8(output.stdout).unwrap()
 }
 
-/// The error of a command that fails with this status and writes nothing.
+/// What a command tells that fails with this status and writes nothing.
 fn bad(arguments: &[&str], input: &str, status: i32) -> String {
     let output = venue(arguments, input.as_bytes());
     assert_eq!(output.status.code(), Some(status), "{arguments:?}");

@@ -230,7 +230,7 @@ fn print_tells_where_report_bytes_are_no_record() {
     }
 }
 
-/// What `venue feed --text` prints on standard output and standard error, and its status.
+/// What `venue feed --text` prints, tells and ends with.
 fn feed(name: &str, main: &str, spare: &str) -> (String, String, i32) {
     let file = Kept::new(name, main.as_bytes());
     let output = venue(&["feed", "--text", file.path(), "-"], spare.as_bytes());
@@ -603,7 +603,7 @@ fn explain_tells_the_edition_of_crosses_and_pairs() {
         let told = String::from_utf8(good(&["explain", "--text"], text.as_bytes())).unwrap();
         assert!(told.contains(expected), "{told}");
     }
-    // A hit's pair needs no band, and a missing market best no percentage.
+    // A hit's pair asks no band, and a missing market best no percentage.
     let told = good(&["explain", "--text"], PRINTED_TEXT.as_bytes());
     let told = String::from_utf8(told).unwrap();
     assert!(told.contains("    pair: 3, 5 at net 205\n"), "{told}");
@@ -647,8 +647,8 @@ fn settings_tells_what_held_at_a_message() {
         assert_eq!(told(number), (increment.to_string(), percent.to_string()));
     }
     let beyond = venue(&["settings", "--text", "-", "4711"], DATED.as_bytes());
-    let note = "venue settings: standard input: the session has 22 messages; these are the \
-        settings that it leaves\n";
+    let note = "venue settings: standard input: the session has 22 messages; told is what it \
+        leaves\n";
     assert_eq!(String::from_utf8(beyond.stderr).unwrap(), note);
 }
 
@@ -917,7 +917,7 @@ fn check_prints_the_coverage() {
     assert_eq!(few.status.code(), Some(1));
     assert!(String::from_utf8(few.stderr)
         .unwrap()
-        .contains("did not occur: "));
+        .contains("not shown: "));
 }
 
 #[test]
@@ -969,23 +969,6 @@ fn a_session_cut_by_a_set_goes_on_with_the_same_lines() {
         );
         let told = format!("{first}{}", String::from_utf8(rest).unwrap());
         assert_eq!(told, whole, "{cut}");
-    }
-}
-
-/// Longer than two of the lists that the messages are taken in.
-#[test]
-fn a_long_session_goes_on_with_the_same_lines() {
-    let drawn = ["--profile", "ceiling", "--seed", "3", "--messages", "350"];
-    let session = good(&[&["generate"], &drawn[..]].concat(), b"");
-    let pieces = sessions::message::split(&session);
-    let whole = good(&["sheet"], &session);
-    for cut in [0, 50, 149, 150, 151, 250] {
-        let set = good(&["set", "--after", &cut.to_string()], &session);
-        let set = Kept::new(&format!("long-{cut}"), &set);
-        let first = good(&["sheet"], &pieces[..cut].concat());
-        let rest = pieces[cut..].concat();
-        let rest = good(&["resume", "--unchecked", set.path(), "-"], &rest);
-        assert!([first, rest].concat() == whole, "{cut}");
     }
 }
 
@@ -1166,7 +1149,7 @@ fn text_is_not_read_as_bytes() {
     let sheet = good(&["sheet", "--bytes"], b"open 0\n");
     assert_eq!(sheet, b"64 1 1 0 0\n");
     let errors = bad(&["sheet", "--bytes", "--text"], b"", 2);
-    let expected = "venue sheet: only one of --text and --bytes is allowed\n";
+    let expected = "venue sheet: only one of --text and --bytes can be asked for\n";
     assert!(errors.starts_with(expected), "{errors}");
 }
 
@@ -1399,5 +1382,5 @@ fn one_is_told_as_one() {
     );
     let beyond = venue(&["settings", "-", "5"], &[4, 0, 6, 0]);
     let told = String::from_utf8(beyond.stderr).unwrap();
-    assert!(told.contains("the session has 1 message; these"), "{told}");
+    assert!(told.contains("the session has 1 message; told"), "{told}");
 }

@@ -172,7 +172,7 @@ fn the_first_sheet_tells_how_long_it_takes_and_what_is_proved() {
         (0, "sheet of 6 bytes\n"),
         "{said}"
     );
-    let expected = "bin/sheet: proving and building the program and the crates that it uses, \
+    let expected = "bin/sheet: proving and building the program and all that it stands on, \
         3 crates, this once: about 5 minutes\n\
         bin/sheet: 1 of 3 crates proved: rules\n\
         bin/sheet: 2 of 3 crates proved: wire\n\
@@ -239,7 +239,7 @@ fn what_is_refused_is_told_with_the_log() {
     let log = log.canonicalize().unwrap();
     let end = format!(
         "rt: wire NOT PROVED (exit 1, 3 s)\nrt: FAILED: wire\n\
-         bin/sheet: rt ended with status 1; its output is in {}\n",
+         bin/sheet: rt ended with status 1; all that it said is in {}\n",
         log.display()
     );
     assert!(said.ends_with(&end), "{said}");
@@ -353,8 +353,8 @@ fn a_long_session_is_cut_where_the_program_stops() {
     );
 }
 
-/// The crates that the scripts name are in the project's own crates.txt. The crates.txt of
-/// these tests is a stand-in, so a crate that is renamed would not be noticed there.
+/// The crates that the scripts name stand in the project's own crates.txt: the one here is a
+/// stand-in, which a crate that is renamed does not reach.
 #[test]
 fn scripts_name_crates_that_there_are() {
     let top = Path::new(env!("CARGO_MANIFEST_DIR")).join("../..");
@@ -498,7 +498,7 @@ fn a_comparison_without_its_program_tells_how_it_is_built() {
     assert_eq!((status, printed.as_str()), (0, expected));
 }
 
-/// A tree with what is installed beside programs and archives.
+/// A tree with what is installed besides programs and archives.
 fn tree_to_install(name: &str) -> Tree {
     let tree = Tree::new(name);
     for folder in ["include", "docs"] {
@@ -516,9 +516,9 @@ fn an_installation_proves_and_builds_what_is_missing() {
     let (status, placed, said) = tree.run("bin/install", &["prefix"]);
     assert_eq!((status, placed.lines().count()), (0, 12), "{said}");
     for expected in [
-        "bin/install: proving and building the engine's archives and the crates that they use: about 7 minutes\n",
+        "bin/install: proving and building the engine's archives and all that they stand on: about 7 minutes\n",
         "bin/install: proving dispatch and writing target/staticlib/libdispatch.a\n",
-        "bin/install: proving and building the program and the crates that it uses, 3 crates, this once: about 5 minutes\n",
+        "bin/install: proving and building the program and all that it stands on, 3 crates, this once: about 5 minutes\n",
         "bin/install: building host/target/release/venue, this once\n",
     ] {
         assert!(said.contains(expected), "{said}");

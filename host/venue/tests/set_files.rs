@@ -87,7 +87,7 @@ fn write_set(file: &Path, messages: &str) {
     assert!(good(&asked, DAY.as_bytes()).is_empty());
 }
 
-/// The number that answers a sweep on a set.
+/// The number that a sweep upon a set is answered with.
 fn next_number(file: &Path) -> String {
     let sheet = good(&words(&[&"resume", &"--text", &file, &"-"]), b"sweep\n");
     let sheet = String::from_utf8(sheet).unwrap();
@@ -135,7 +135,7 @@ fn a_set_that_differs_is_refused_unless_it_is_insisted_on() {
     let asked = words(&[&"resume", &"--text", &noon, &"-"]);
     let insisted = words(&[&"resume", &"--text", &"--unchecked", &noon, &"-"]);
     let start = format!(
-        "venue resume: {}: it is not what {} says: ",
+        "venue resume: {}: it is not what {} tells: ",
         noon.display(),
         sums.display()
     );
@@ -146,7 +146,7 @@ fn a_set_that_differs_is_refused_unless_it_is_insisted_on() {
         (later.clone(), "its checksum is another one".to_string()),
         (
             set[..length - 1].to_string(),
-            format!("it has {} bytes, not {length} bytes", length - 1),
+            format!("it has {} bytes, and {length} bytes are told", length - 1),
         ),
     ] {
         std::fs::write(&noon, changed).unwrap();
@@ -214,7 +214,7 @@ fn bad_input_and_bad_places_leave_what_there_was() {
         (link.clone(), "it is there, and no regular file"),
         (folder.file("no/noon.set"), "noon.set.new was not written: "),
         (noon.join("below"), "below.new was not written: "),
-        (PathBuf::new(), "is not a file name"),
+        (PathBuf::new(), "is no name of a file"),
     ] {
         let error = bad(&words(&[&"set", &"--output", &place]), b"", 1);
         assert!(error.starts_with("venue set: "), "{error}");

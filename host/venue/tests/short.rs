@@ -1,7 +1,7 @@
 //! The file that the proved program, crates/short_sheets, is compared with in the gate: what it holds is
 //! the reference's.
 //!
-//! With STORE set the test writes the file again: `STORE=1 cargo test -p venue --test short`.
+//! With STORE set it is written anew: `STORE=1 cargo test -p venue --test short`.
 
 use sessions::short::{parse_list, print_short, FIXED};
 use std::fs;
@@ -81,7 +81,7 @@ fn bad_lists_are_told_and_nothing_is_printed() {
         (
             "torn",
             "sweep\nraw 05 00 06 00\n",
-            "line 2: its length field is not its number of bytes",
+            "line 2: its length field does not tell its bytes",
         ),
         ("word", "sweep\nswep\n", "line 2: expected"),
     ];

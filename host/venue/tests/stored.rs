@@ -1,7 +1,7 @@
 //! The sessions that the proved printing program, crates/sheet, is run on in the gate: the bytes
 //! stored there are these, and the sheets that it must print are the reference's.
 //!
-//! With STORE set the test writes the files again: `STORE=1 cargo test -p venue --test stored`.
+//! With STORE set the files are written anew: `STORE=1 cargo test -p venue --test stored`.
 
 use sessions::message::Message;
 use sessions::profile::Profile;
@@ -64,8 +64,8 @@ fn editions() -> Session {
     from_text("editions", &text)
 }
 
-/// The ceiling: 20 generations of each of two series by messages 3 to 41, none by messages 43
-/// and 258, some by 259, and those of a better order by 261, when the next oldest is of
+/// The ceiling: 20 generations of each of two series by messages 3 to 41, none by message 43
+/// nor 258, some by 259, and those of a better order by 261, when the next oldest is of
 /// message 5.
 fn traffic() -> Session {
     let complex = |id: usize, limit: usize| {

@@ -1,4 +1,4 @@
-//! One version: the file VERSION, and all that have it. What bin/install fills in from that
+//! One version: the file VERSION, and all that tell it. What bin/install fills in from that
 //! file is tested with it, in host/legging.
 
 use std::process::Command;

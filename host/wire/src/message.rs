@@ -170,8 +170,8 @@ impl Message {
         }
     }
 
-    /// Reads one message cut from a list; bytes that are no message of kinds 1 to 11 at its
-    /// length stay raw.
+    /// Reads one message cut from a list; what is none of kinds 1 to 11 at its
+    /// length stays raw.
     pub fn decode(bytes: &[u8]) -> Message {
         Message::read(bytes).unwrap_or_else(|| Message::Raw(bytes.to_vec()))
     }

@@ -26,7 +26,7 @@ best-regular-requires c κs = search rules
 some : {b : List ℕ} → Right b → none_shows_again b ≡ true → (i : ℕ) → held (get_or (venue_of b).regular i no_regular).quantity ≡ true → held (shown_size (get_or (venue_of b).regular i no_regular)) ≡ true
 some r u i h = fully-some _ h (r.orders.displays i h) (r.marked.shows u i)
 
--- the best price of the other side, as the function reads it
+-- the best price of the other side, as it is asked
 best-asked : (c : tie.After-reaches-any) →
     c.reaches-any.result
     ≡ reaches_any c.before.before.before.before.args.side c.before.before.before.before.args.price

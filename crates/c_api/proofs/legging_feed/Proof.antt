@@ -5,18 +5,8 @@ use borrow.Author.Rules.{rules}
 use Rattle.c_api.proofs.legging_feed.Statement.{statement}
 use Rattle.c_api.proofs.legging_feed.Tie as tie
 
-feed-on-numbers-requires : tie.Need-feed-on-numbers-requires
-feed-on-numbers-requires c κs = record { whole = search rules; loaded = c.before.before.fresh-numbers.ensures }
-
 returns : tie.Need-returns
-returns c = let e = c.before.before.before.feed-on-numbers.ensures in (ap (λ (x : Call). x.returned.number) e, ap (λ (x : Call). x.report) e)
+returns c = let e = c.before.before.feed.ensures in (ap (λ (x : Call). x.returned.number) e, ap (λ (x : Call). x.report) e)
 
 pub legging-feed-spec : {M : Type 1} → statement M
-legging-feed-spec =
-    tie.close
-    (tie.spec
-    (λ c κs. search rules)
-    (λ c. search rules)
-    feed-on-numbers-requires
-    (λ c. search rules)
-    returns)
+legging-feed-spec = tie.close (tie.spec (λ c κs. search rules) (λ c. search rules) returns)

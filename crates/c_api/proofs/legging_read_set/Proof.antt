@@ -5,19 +5,24 @@ use Rattle.c_api.proofs.legging_read_set.Statement.{statement}
 use Rattle.c_api.proofs.legging_read_set.Tie as tie
 
 returns : tie.Need-returns
-returns c = let s = c.before.before.before.before.before.before.before.before in reads_none s.args.set.now s.args.venue.now s.args.number.now _ c.before.before.before.zero-from.ensures c.if1.true
+returns c = let s = c.before.before.before.before.before.before.before.before in reads_none s.args.set.now s.args.venue.now
+    s.args.number.now _ c.before.before.before.zero-from.ensures c.if1.true
 
 returns-2 : tie.Need-returns-2
-returns-2 c = let s = c.before.before.before.before.before.before.before.before.before in reads_short s.args.set.now s.args.venue.now s.args.number.now _ c.before.before.before.before.zero-from.ensures c.before.if1.false c.if2.true
+returns-2 c = let s = c.before.before.before.before.before.before.before.before.before.before.before.before.before.before.before in
+    reads_short s.args.set.now s.args.venue.now s.args.number.now _
+    c.before.before.before.before.before.before.before.before.before.before.zero-from.ensures
+    c.before.before.before.before.before.before.before.if1.false c.before.before.before.before.before.before.read-for.result
+    c.before.before.before.before.before.before.read-for.ensures _ c.before.before.before.put-venue.ensures c.if2.true
 
 returns-3 : tie.Need-returns-3
-returns-3 c =
-    let h = c.before.before.before.before.before.before in
-    let k = h.before.before in
-    let z = k.before.before.before.before in
-    let s = z.before.before.before.before.before in
-    reads_all s.args.set.now s.args.venue.now s.args.number.now _ z.zero-from.ensures k.before.if1.false k.if2.false
-    h.read_set.result _ h.read_set.ensures _ c.before.before.put-number.ensures
+returns-3 c = let s = c.before.before.before.before.before.before.before.before.before.before.before.before.before.before.before.before.before.before.before in reads_all s.args.set.now s.args.venue.now s.args.number.now _
+    c.before.before.before.before.before.before.before.before.before.before.before.before.before.before.zero-from.ensures
+    c.before.before.before.before.before.before.before.before.before.before.before.if1.false
+    c.before.before.before.before.before.before.before.before.before.before.read-for.result
+    c.before.before.before.before.before.before.before.before.before.before.read-for.ensures _
+    c.before.before.before.before.before.before.before.put-venue.ensures c.before.before.before.before.if2.false _
+    c.before.before.put-number.ensures
 
 pub legging-read-set-spec : {M : Type 1} → statement M
 legging-read-set-spec =
@@ -26,9 +31,11 @@ legging-read-set-spec =
     (λ c κs. search rules)
     (λ c. search rules)
     returns
+    (λ c κs. search rules)
+    (λ c κs. search rules)
+    (λ c. search rules)
     (λ c. search rules)
     returns-2
-    (λ c κs. search rules)
     (λ c κs. search rules)
     (λ c. search rules)
     (λ c. search rules)

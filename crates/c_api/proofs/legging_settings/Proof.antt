@@ -14,11 +14,11 @@ returns-2 c = let s = c.before.before.before.before.before.before.before.before 
     s.args.settings.now _ c.before.before.before.before.zero-from.ensures c.before.if1.false c.if2.true
 
 returns-3 : tie.Need-returns-3
-returns-3 c =
-    let s = c.before.before.before.before.before.before.before.before.before.before.before.before.before in
+returns-3 c = let s = c.before.before.before.before.before.before.before.before.before.before.before.before.before.before in
     told-all s.args.venue.now s.args.number s.args.settings.now _
-    c.before.before.before.before.before.before.before.before.before.zero-from.ensures
-    c.before.before.before.before.before.before.if1.false (omega arith) _ c.before.before.before.before.settings2.ensures _
+    c.before.before.before.before.before.before.before.before.before.before.zero-from.ensures
+    c.before.before.before.before.before.before.before.if1.false (omega arith) _
+    c.before.before.before.before.before.venue-from.ensures _ c.before.before.before.before.settings2.ensures _
     c.before.before.put-settings.ensures
 
 pub legging-settings-spec : {M : Type 1} → statement M
@@ -30,6 +30,7 @@ legging-settings-spec =
     returns
     (λ c. search rules)
     returns-2
+    (λ c κs. search rules)
     (λ c κs. search rules)
     (λ c κs. search rules)
     (λ c. search rules)

@@ -17,19 +17,18 @@ returns-2 c = let s = c.before.before.before.before.before.before.before.before.
     c.before.if1.false c.if2.true
 
 cast-put-number : tie.Need-overflow-cast-put-number
-cast-put-number c =
-    let s = c.before.before.before.before.before.before.before.before.before.before.before.before.before.before.before.before.before.before.before in
-    let few = saved-few s.args.venue.now s.args.number _ _ _ c.before.before.before.before.write-set.ensures in
+cast-put-number c = let s = c.before.before.before.before.before.before.before.before.before.before.before.before.before.before.before.before.before.before.before.before in let few = saved-few s.args.venue.now s.args.number _ _
+    c.before.before.before.before.before.before.venue-from.ensures _ _ c.before.before.before.before.write-set.ensures in
     record { fits = omega arith }
 
 returns-3 : tie.Need-returns-3
-returns-3 c =
-    let w = c.before.before.before.before.before.before.before in
-    let two = w.before.before in
-    let z = two.before.before.before.before in
-    let s = z.before.before.before.before.before.before.before.before.before in
-    saves-all s.args.venue.now s.args.number s.args.set.now _ s.args.written.now _ z.before.before.before.before.zero-from.ensures
-    z.zero-from2.ensures two.before.if1.false two.if2.false w.write-set.result _ w.write-set.ensures _ c.before.before.put-number.ensures
+returns-3 c = let s = c.before.before.before.before.before.before.before.before.before.before.before.before.before.before.before.before.before.before.before.before.before.before.before in saves-all s.args.venue.now s.args.number s.args.set.now _
+    s.args.written.now _
+    c.before.before.before.before.before.before.before.before.before.before.before.before.before.before.before.before.before.before.zero-from.ensures c.before.before.before.before.before.before.before.before.before.before.before.before.before.before.zero-from2.ensures c.before.before.before.before.before.before.before.before.before.before.before.if1.false
+    c.before.before.before.before.before.before.before.before.before.before.if2.false _
+    c.before.before.before.before.before.before.before.before.before.venue-from.ensures
+    c.before.before.before.before.before.before.before.write-set.result _
+    c.before.before.before.before.before.before.before.write-set.ensures _ c.before.before.put-number.ensures
 
 pub legging-write-set-spec : {M : Type 1} → statement M
 legging-write-set-spec =
@@ -43,6 +42,7 @@ legging-write-set-spec =
     (λ c. search rules)
     (λ c. search rules)
     returns-2
+    (λ c κs. search rules)
     (λ c κs. search rules)
     cast-put-number
     (λ c κs. search rules)

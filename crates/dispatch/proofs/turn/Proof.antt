@@ -8,7 +8,7 @@ use borrow.Author.Rules.{rules}
 use Rattle.lanes.specs.Memory.{lane_size, layer_from}
 use Rattle.dispatch.specs.Hosts.{turn_reply_of}
 use Rattle.lanes.proofs.ChecksLaws.{fails-unsound}
-use Rattle.dispatch.proofs.CallWays.{checked-all, Serves, small, lent-size, lent-some, lent-few, lent-short, turn-none, turn-unsound, turn-idle, turn-ended, turn-serves}
+use Rattle.dispatch.proofs.CallWays.{checked-all, Serves, small, lent-size, lent-some, lent-few, lent-short, lent-counted, turn-none, turn-unsound, turn-idle, turn-ended, turn-serves}
 use Rattle.dispatch.proofs.turn.Statement.{statement}
 use Rattle.dispatch.proofs.turn.Tie as tie
 
@@ -53,55 +53,86 @@ mul_at c = omega (arith, small c.before.before.before.before.before.before.befor
 add-end : tie.Need-overflow-add-end
 add-end c = omega (arith, small c.before.before.before.before.before.before.before.before.before.args.layer.now c.before.before.before.before.next-waiting.result (serves (c)))
 
-part-serve-end : tie.Need-slice-bounds-serve-end
-part-serve-end c = omega (
+part-call-head-end : tie.Need-slice-bounds-call-head-end
+part-call-head-end c = omega (
   arith,
-  small c.before.before.before.before.before.before.before.before.before.args.layer.now c.before.before.before.before.next-waiting.result (serves (c)),
-  (serves (c)).size,
+  small c.before.before.before.before.before.before.before.before.before.before.args.layer.now
+      c.before.before.before.before.before.next-waiting.result (serves c.before),
+  (serves c.before).size,
 )
 
-serve-requires : tie.Need-serve-requires
-serve-requires c κs = let x = serves c.before.before in
-    let m = c.before.before.before.before.before.before.before.before.before.before.before.args.layer.now in
-    let v = c.before.before.before.before.before.before.next-waiting.result in
-    let k = lane_size * v + lane_size - lane_size * v in record {
-      whole = lent-size m v x k (omega arith);
-      places = lent-short m v x k (omega arith);
-      waits = lent-some m v x k (omega arith);
-      most = lent-few m v x k (omega arith);
-    }
+call-head-requires : tie.Need-call-head-requires
+call-head-requires c κs = record {
+  whole = lent-size c.before.before.before.before.before.before.before.before.before.before.before.before.args.layer.now
+      c.before.before.before.before.before.before.before.next-waiting.result (serves c.before.before.before)
+      (lane_size * c.before.before.before.before.before.before.before.next-waiting.result + lane_size - lane_size *
+      c.before.before.before.before.before.before.before.next-waiting.result) (omega arith);
+  places = lent-short c.before.before.before.before.before.before.before.before.before.before.before.before.args.layer.now
+      c.before.before.before.before.before.before.before.next-waiting.result (serves c.before.before.before)
+      (lane_size * c.before.before.before.before.before.before.before.next-waiting.result + lane_size - lane_size *
+      c.before.before.before.before.before.before.before.next-waiting.result) (omega arith);
+}
 
 returns-4 : tie.Need-returns-4
-returns-4 c = let x = serves c.before.before.before.before.before.before.before.before.before in
-    let start = c.before.before.before.before.before.before.before.before.before.before.before.before.before.before.before.before.before.before in
-    let v = c.before.before.before.before.before.before.before.before.before.before.before.before.before.next-waiting.result in
-    let k = c.before.before.before.before.before.before.serve in
-    turn-ended start.args.layer.now v x (lane_size * v + lane_size - lane_size * v) (omega arith) (length start.args.report.now) k.result k.new.0
-    k.new.1.0 k.ensures c.if4.true
+returns-4 c = let k = c.before.before.before.before.call-head in
+    turn-ended c.before.before.before.before.before.before.before.before.before.before.before.before.before.before.before.before.before.args.layer.now
+    c.before.before.before.before.before.before.before.before.before.before.before.before.next-waiting.result
+    (serves c.before.before.before.before.before.before.before.before)
+    (lane_size * c.before.before.before.before.before.before.before.before.before.before.before.before.next-waiting.result + lane_size -
+    lane_size * c.before.before.before.before.before.before.before.before.before.before.before.before.next-waiting.result)
+    (omega arith) (length
+    c.before.before.before.before.before.before.before.before.before.before.before.before.before.before.before.before.before.args.report.now) k.result _ k.ensures c.if4.true
+
+part-advance-end : tie.Need-slice-bounds-advance-end
+part-advance-end c = omega (
+  arith,
+  small c.before.before.before.before.before.before.before.before.before.before.before.before.before.before.before.before.before.before.args.layer.now
+      c.before.before.before.before.before.before.before.before.before.before.before.before.before.next-waiting.result
+      (serves c.before.before.before.before.before.before.before.before.before),
+  (serves c.before.before.before.before.before.before.before.before.before).size,
+)
+
+advance-requires : tie.Need-advance-requires
+advance-requires c κs = let k = c.before.before.before.before.before.before.call-head in
+    let e = (lane_size * c.before.before.before.before.before.before.before.before.before.before.before.before.before.before.next-waiting.result + lane_size - lane_size *
+    c.before.before.before.before.before.before.before.before.before.before.before.before.before.before.next-waiting.result) in record {
+      whole = lent-size c.before.before.before.before.before.before.before.before.before.before.before.before.before.before.before.before.before.before.before.args.layer.now
+          c.before.before.before.before.before.before.before.before.before.before.before.before.before.before.next-waiting.result
+          (serves c.before.before.before.before.before.before.before.before.before.before) e (omega arith);
+      room = lent-counted c.before.before.before.before.before.before.before.before.before.before.before.before.before.before.before.before.before.before.before.args.layer.now
+          c.before.before.before.before.before.before.before.before.before.before.before.before.before.before.next-waiting.result
+          (serves c.before.before.before.before.before.before.before.before.before.before) e (omega arith)
+          (length c.before.before.before.before.before.before.before.before.before.before.before.before.before.before.before.before.before.before.before.args.report.now) k.result _ k.ensures c.before.before.if4.false;
+      waits = lent-some c.before.before.before.before.before.before.before.before.before.before.before.before.before.before.before.before.before.before.before.args.layer.now
+          c.before.before.before.before.before.before.before.before.before.before.before.before.before.before.next-waiting.result
+          (serves c.before.before.before.before.before.before.before.before.before.before) e (omega arith);
+      most = lent-few c.before.before.before.before.before.before.before.before.before.before.before.before.before.before.before.before.before.before.before.args.layer.now
+          c.before.before.before.before.before.before.before.before.before.before.before.before.before.before.next-waiting.result
+          (serves c.before.before.before.before.before.before.before.before.before.before) e (omega arith);
+    }
 
 cast-layer : tie.Need-overflow-cast-layer
-cast-layer c = let x = serves c.before.before.before.before.before.before.before.before.before in
-    omega (
-      arith,
-      small c.before.before.before.before.before.before.before.before.before.before.before.before.before.before.before.before.before.before.args.layer.now
-          c.before.before.before.before.before.before.before.before.before.before.before.before.before.next-waiting.result x,
-    )
+cast-layer c = omega (
+  arith,
+  small c.before.before.before.before.before.before.before.before.before.before.before.before.before.before.before.before.before.before.before.before.before.before.args.layer.now
+      c.before.before.before.before.before.before.before.before.before.before.before.before.before.before.before.before.before.next-waiting.result (serves c.before.before.before.before.before.before.before.before.before.before.before.before.before),
+)
 
-cast-t25 : tie.Need-overflow-cast-t25
-cast-t25 c = let x = serves c.before.before.before.before.before.before.before.before.before in
-    omega (
-      arith,
-      small c.before.before.before.before.before.before.before.before.before.before.before.before.before.before.before.before.before.before.args.layer.now
-          c.before.before.before.before.before.before.before.before.before.before.before.before.before.next-waiting.result x,
-    )
+cast-t30 : tie.Need-overflow-cast-t30
+cast-t30 c = omega (
+  arith,
+  small c.before.before.before.before.before.before.before.before.before.before.before.before.before.before.before.before.before.before.before.before.before.before.args.layer.now
+      c.before.before.before.before.before.before.before.before.before.before.before.before.before.before.before.before.before.next-waiting.result (serves c.before.before.before.before.before.before.before.before.before.before.before.before.before),
+)
 
 returns-5 : tie.Need-returns-5
-returns-5 c = let x = serves c.before.before.before.before.before.before.before.before.before in
-    let start = c.before.before.before.before.before.before.before.before.before.before.before.before.before.before.before.before.before.before in
-    let v = c.before.before.before.before.before.before.before.before.before.before.before.before.before.next-waiting.result in
-    let k = c.before.before.before.before.before.before.serve in
-    turn-serves start.args.layer.now v x (lane_size * v + lane_size - lane_size * v) (omega arith) (length start.args.report.now) k.result k.new.0
-    k.new.1.0 k.ensures c.if4.false
+returns-5 c = let k = c.before.before.before.before.before.before.before.before.before.call-head in
+    turn-serves c.before.before.before.before.before.before.before.before.before.before.before.before.before.before.before.before.before.before.before.before.before.before.args.layer.now
+    c.before.before.before.before.before.before.before.before.before.before.before.before.before.before.before.before.before.next-waiting.result (serves c.before.before.before.before.before.before.before.before.before.before.before.before.before)
+    (lane_size * c.before.before.before.before.before.before.before.before.before.before.before.before.before.before.before.before.before.next-waiting.result + lane_size - lane_size *
+    c.before.before.before.before.before.before.before.before.before.before.before.before.before.before.before.before.before.next-waiting.result) (omega arith)
+    (length c.before.before.before.before.before.before.before.before.before.before.before.before.before.before.before.before.before.before.before.before.before.before.args.report.now) k.result _ k.ensures c.before.before.before.before.before.if4.false
+    c.before.before.advance.new.0 c.before.before.advance.ensures
 
 pub turn_spec : {M : Type 1} → statement M
 turn_spec =
@@ -124,14 +155,18 @@ turn_spec =
     add-end
     (λ c. search rules)
     (λ c. search rules)
-    part-serve-end
-    serve-requires
+    part-call-head-end
+    call-head-requires
     (λ c. search rules)
     (λ c. search rules)
     returns-4
+    (λ c. search rules)
+    (λ c. search rules)
+    part-advance-end
+    advance-requires
     cast-layer
     (λ c. search rules)
-    cast-t25
+    cast-t30
     (λ c. search rules)
     (λ c. search rules)
     returns-5)

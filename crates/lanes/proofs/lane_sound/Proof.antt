@@ -15,17 +15,17 @@ returns c = lane-waits _ _ _ _ c.before.wait-sound.ensures (not-true _ c.if1.tru
 returns-2 : tie.Need-returns-2
 returns-2 c = lane-passed _ _ _ _ c.before.before.wait-sound.ensures (not-false _ c.before.if1.false) c.if2.true
 
-slice-aggregate-load-bytes-ready-2 : tie.Need-slice-aggregate-load-bytes-ready-2
-slice-aggregate-load-bytes-ready-2 c = let s = c.before.before.before.before.before.before.before in let p = s.requires in sym (length-take-le venue_size s.args.lane.now (omega arith))
+slice-aggregate-venue-from : tie.Need-slice-aggregate-venue-from
+slice-aggregate-venue-from c = let p = c.before.before.before.before.before.requires in sym (length-take-le venue_size c.before.before.before.before.before.args.lane.now (omega arith))
 
-load-bytes-ready-requires : tie.Need-load-bytes-ready-requires
-load-bytes-ready-requires c κs = let s = c.before.before.before.before.before.before.before in let p = s.requires in
-    record { bytes = length-take-le venue_size s.args.lane.now (omega arith); whole = search rules }
+venue-from-requires : tie.Need-venue-from-requires
+venue-from-requires c κs = let p = c.before.before.before.before.before.requires in length-take-le venue_size c.before.before.before.before.before.args.lane.now (omega arith)
 
 returns-3 : tie.Need-returns-3
-returns-3 c = lane-checked _ _ _ _ c.before.before.before.before.before.before.before.wait-sound.ensures _ _
-    (not-false _ c.before.before.before.before.before.before.if1.false) c.before.before.before.before.before.if2.false
-    c.before.before.before.before.u32-at.ensures c.before.load-bytes-ready.ensures.answer
+returns-3 c = lane-checked _ _ _ _ c.before.before.before.before.before.before.before.before.wait-sound.ensures _ _ _
+    (not-false _ c.before.before.before.before.before.before.before.if1.false)
+    c.before.before.before.before.before.before.if2.false c.before.before.before.before.venue-from.ensures
+    c.before.before.before.u32-at.ensures c.before.load-ready.ensures.answer
 
 pub lane-sound-spec : {M : Type 1} → statement M
 lane-sound-spec =
@@ -34,8 +34,9 @@ lane-sound-spec =
     (λ c κs. search rules)
     returns
     returns-2
+    slice-aggregate-venue-from
+    venue-from-requires
     (λ c κs. search rules)
     (λ c. search rules)
-    slice-aggregate-load-bytes-ready-2
-    load-bytes-ready-requires
+    (λ c κs. search rules)
     returns-3)

@@ -5,7 +5,6 @@ use Rattle.rules.specs.Step.{perform}
 use Rattle.refusals.proofs.RefusalFound.{away-taken}
 use Rattle.answers.proofs.Answering.{done-steps, out-steps, in-steps}
 use Rattle.market_messages.proofs.Setting.{away-series}
-use Rattle.answers.proofs.Sound.{sound-stands}
 use borrow.Author.Rules.{rules}
 use Rattle.market_messages.proofs.away_step.Statement.{statement}
 use Rattle.market_messages.proofs.away_step.Tie as tie
@@ -19,7 +18,6 @@ set-away-requires c κs =
     let s = c.before.before.before.before.before.before.before.before.before.before in record {
       whole = s.requires.whole;
       right = s.requires.dense.right;
-      stand = sound-stands _ s.requires.sound;
       series = away-series _ _ _ (sym c.before.before.before.before.before.before.before.away-in-range.ensures ∙ not-false _
           c.before.before.before.before.before.before.if1.false);
     }

@@ -5,7 +5,6 @@ use Rattle.rules.specs.Step.{perform}
 use Rattle.sweeps.proofs.RisingLaws.{sound-rising}
 use Rattle.refusals.proofs.RefusalFound.{limited-taken}
 use Rattle.answers.proofs.Answering.{done-steps, out-steps, in-steps}
-use Rattle.answers.proofs.Sound.{sound-stands}
 use borrow.Author.Rules.{rules}
 use Rattle.market_messages.proofs.limited_step.Statement.{statement}
 use Rattle.market_messages.proofs.limited_step.Tie as tie
@@ -17,10 +16,7 @@ returns c = out-steps _ _ _ _ _ _ _ _ _ (sym c.before.before.before.before.befor
 limited-sweep-requires : tie.Need-limited-sweep-requires
 limited-sweep-requires c κs =
     let s = c.before.before.before.before.before.before.before.before.before.before in
-    record {
-      rising = record { whole = s.requires.whole; dense = s.requires.dense; rising = sound-rising _ s.requires.sound.is };
-      stand = sound-stands _ s.requires.sound;
-    }
+    record { whole = s.requires.whole; dense = s.requires.dense; rising = sound-rising _ s.requires.sound.is }
 
 finish-requires : tie.Need-finish-requires
 finish-requires c κs =

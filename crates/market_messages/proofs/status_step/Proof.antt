@@ -5,7 +5,6 @@ use Rattle.rules.specs.Step.{perform}
 use Rattle.refusals.proofs.RefusalFound.{status-taken}
 use Rattle.answers.proofs.Answering.{done-steps, out-steps, in-steps}
 use Rattle.market_messages.proofs.Setting.{status-series}
-use Rattle.answers.proofs.Sound.{sound-stands}
 use borrow.Author.Rules.{rules}
 use Rattle.market_messages.proofs.status_step.Statement.{statement}
 use Rattle.market_messages.proofs.status_step.Tie as tie
@@ -19,7 +18,6 @@ set-status-requires c κs =
     let s = c.before.before.before.before.before.before.before.before.before.before in record {
       whole = s.requires.whole;
       right = s.requires.dense.right;
-      stand = sound-stands _ s.requires.sound;
       series = status-series _ _ (sym c.before.before.before.before.before.before.before.status-in-range.ensures ∙ not-false _
           c.before.before.before.before.before.before.if1.false);
     }

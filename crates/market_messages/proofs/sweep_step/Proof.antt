@@ -3,7 +3,6 @@ use mathlib.Core.Path.{◌∙◌}
 use Rattle.rules.specs.Step.{perform}
 use Rattle.refusals.proofs.RefusalFound.{sweep-taken}
 use Rattle.answers.proofs.Answering.{done-steps}
-use Rattle.answers.proofs.Sound.{sound-stands}
 use borrow.Author.Rules.{rules}
 use Rattle.market_messages.proofs.sweep_step.Statement.{statement}
 use Rattle.market_messages.proofs.sweep_step.Tie as tie
@@ -11,7 +10,7 @@ use Rattle.market_messages.proofs.sweep_step.Tie as tie
 sweep-requires : tie.Need-sweep-requires
 sweep-requires c κs =
     let s = c.before.before.before.before.before.before.before.before in
-    record { whole = s.requires.whole; dense = s.requires.dense; stand = sound-stands _ s.requires.sound }
+    record { whole = s.requires.whole; dense = s.requires.dense }
 
 finish-requires : tie.Need-finish-requires
 finish-requires c κs =

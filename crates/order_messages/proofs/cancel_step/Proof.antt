@@ -7,7 +7,6 @@ use Rattle.rules.specs.Step.{perform}
 use Rattle.wire.proofs.Decoding.{id-is}
 use Rattle.refusals.proofs.RefusalFound.{cancel-unknown, cancel-taken}
 use Rattle.answers.proofs.Answering.{refused-steps, done-steps, out-steps, in-steps}
-use Rattle.answers.proofs.Sound.{sound-stands}
 use borrow.Author.Rules.{rules}
 use Rattle.order_messages.proofs.cancel_step.Statement.{statement}
 use Rattle.order_messages.proofs.cancel_step.Tie as tie
@@ -25,13 +24,10 @@ returns-2 c = in-steps _ _ _ _ _ _ _ _ _ (sym (id-is _ (omega arith)) ∙ ap not
 cancel-requires : tie.Need-cancel-requires
 cancel-requires c κs =
     let s = c.before.before.before.before.before.before.before.before.before.before.before.before in record {
-      order = record {
-        whole = s.requires.whole;
-        dense = s.requires.dense;
-        rests = sym c.before.before.before.before.before.before.before.rests.ensures ∙ not-false _
-            c.before.before.before.before.before.before.if2.false;
-      };
-      stand = sound-stands _ s.requires.sound;
+      whole = s.requires.whole;
+      dense = s.requires.dense;
+      rests = sym c.before.before.before.before.before.before.before.rests.ensures ∙ not-false _
+          c.before.before.before.before.before.before.if2.false;
     }
 
 finish-requires : tie.Need-finish-requires

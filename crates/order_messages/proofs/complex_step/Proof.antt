@@ -4,7 +4,6 @@ use Rattle.rules.specs.Step.{perform}
 use Rattle.refusals.proofs.Passing.{complex-room}
 use Rattle.refusals.proofs.RefusalFound.{legs-in}
 use Rattle.answers.proofs.Answering.{refused-steps, done-steps}
-use Rattle.order_messages.proofs.Entering.{put-standing}
 use borrow.Author.Rules.{rules}
 use Rattle.order_messages.proofs.complex_step.Statement.{statement}
 use Rattle.order_messages.proofs.complex_step.Tie as tie
@@ -15,11 +14,12 @@ returns c = refused-steps _ _ _ _ _ _ _ _ c.before.before.before.before.before.b
 
 enter-complex-requires : tie.Need-enter-complex-requires
 enter-complex-requires c κs =
-    let s = c.before.before.before.before.before.before.before.before.before.before.before in
-    let r = sym c.before.before.before.before.before.before.before.complex-refusal.ensures ∙ c.before.before.before.before.before.before.if1.false in
-    record {
-      order = record { whole = s.requires.whole; dense = s.requires.dense; room = complex-room _ s.requires.dense _ r; legs = legs-in _ s.requires.in_range };
-      stand = put-standing s.args.numbers.now _ s.requires.sound r;
+    let s = c.before.before.before.before.before.before.before.before.before.before.before in record {
+      whole = s.requires.whole;
+      dense = s.requires.dense;
+      room = complex-room _ s.requires.dense _ (sym c.before.before.before.before.before.before.before.complex-refusal.ensures
+          ∙ c.before.before.before.before.before.before.if1.false);
+      legs = legs-in _ s.requires.in_range;
     }
 
 returns-2 : tie.Need-returns-2

@@ -6,22 +6,19 @@ use Rattle.rules.specs.Complex.{complex}
 use Rattle.records.specs.Seen.{seen}
 use Rattle.records.specs.Stage.{◌does◌}
 use Rattle.places.specs.Layout.{venue_of}
-use Rattle.order_messages.proofs.Entering.{last-dense, last-put}
+use Rattle.order_messages.proofs.Entering.{last-dense}
 use borrow.Author.Rules.{rules}
 use Rattle.order_messages.proofs.enter_complex.Statement.{statement}
 use Rattle.order_messages.proofs.enter_complex.Tie as tie
 
 complex-order-requires : tie.Need-complex-order-requires
 complex-order-requires c κs = let s = c.before.before.before.before.before.before.before.before in
-    let p = c.before.before.before.before.put_last.ensures in let k = p.1.complexes in let h = s.requires.order.room in
+    let p = c.before.before.before.before.put_last.ensures in let k = p.1.complexes in let h = s.requires.room in
     record {
-      order = record {
-        whole = c.before.before.before.before.put_last.auto.0 ∙ s.requires.order.whole;
-        dense = last-dense _ _ _ p.0 p.1 s.requires.order.dense;
-        room = omega arith;
-        legs = s.requires.order.legs;
-      };
-      stand = last-put _ _ _ _ p.0 k s.requires.stand;
+      whole = c.before.before.before.before.put_last.auto.0 ∙ s.requires.whole;
+      dense = last-dense _ _ _ p.0 p.1 s.requires.dense;
+      room = omega arith;
+      legs = s.requires.legs;
     }
 
 returns : tie.Need-returns
@@ -30,7 +27,7 @@ returns c =
     let p9 = c.before.before.before.before.before.before.before.before.before in
     let s = p9.before.before.before.before in (
       k.0 ∙ ap (λ (w : Venue). seen s.args.out.now s.args.at does complex s.args.number s.args.c w) p9.put_last.ensures.0,
-      k.1.right (p9.put_last.ensures.1.right s.requires.order.dense.right),
+      k.1.right (p9.put_last.ensures.1.right s.requires.dense.right),
     )
 
 pub enter-complex-spec : {M : Type 1} → statement M

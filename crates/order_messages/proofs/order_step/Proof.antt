@@ -5,7 +5,6 @@ use Rattle.rules.specs.Step.{perform}
 use Rattle.places.specs.Layout.{venue_of}
 use Rattle.refusals.proofs.Passing.{order_below, order-room}
 use Rattle.answers.proofs.Answering.{refused-steps, done-steps, out-steps, in-steps}
-use Rattle.answers.proofs.Sound.{sound-stands}
 use borrow.Author.Rules.{rules}
 use Rattle.order_messages.proofs.order_step.Statement.{statement}
 use Rattle.order_messages.proofs.order_step.Tie as tie
@@ -30,15 +29,13 @@ enter-order-requires c κs =
     let s = c.before.before.before.before.before.before.before.before.before.before.before.before.before in
     let r = sym c.before.before.before.before.before.before.before.order-refusal.ensures
     ∙ c.before.before.before.before.before.before.if2.false in record {
-      order = record {
-        whole = s.requires.whole;
-        dense = s.requires.dense;
-        room = order-room _ s.requires.dense _ r;
-        in_range = sym c.before.before.before.before.before.before.before.before.before.before.regular-in-range.ensures ∙ not-false _ c.before.before.before.before.before.before.before.before.before.if1.false;
-        fully = s.requires.fully;
-        newest = order_below (venue_of s.args.numbers.now) _ r s.requires.sound.is;
-      };
-      stand = sound-stands _ s.requires.sound;
+      whole = s.requires.whole;
+      dense = s.requires.dense;
+      room = order-room _ s.requires.dense _ r;
+      in_range = sym c.before.before.before.before.before.before.before.before.before.before.regular-in-range.ensures ∙ not-false _ c.before.before.before.before.before.before.before.before.before.if1.false;
+      fully = s.requires.fully;
+      newest = order_below
+          (venue_of s.args.numbers.now) _ r s.requires.sound.is;
     }
 
 returns-3 : tie.Need-returns-3

@@ -1,5 +1,5 @@
 -- `orders::complex_order` meets its contract.
-use mathlib.Core.Path.{sym, ap, subst, ◌∙◌}
+use mathlib.Core.Path.{sym, ap, ◌∙◌}
 use Prim.Native.Nat.{ℕ}
 use native.Mathlib.Omega.{arith}
 use Rattle.rules.specs.Trading.{put_complex}
@@ -7,8 +7,6 @@ use Rattle.places.specs.Layout.{venue_of}
 use Rattle.place_writes.proofs.Closed.{dense-complex}
 use Rattle.places.proofs.Beside.{counts-on}
 use Rattle.orders.proofs.OrderLaws.{complex-law, counts-more}
-use Rattle.settling.specs.Asked.{AllStanding}
-use Rattle.orders.proofs.SettlingLaws.{work-standing}
 use borrow.Author.Rules.{rules}
 use Rattle.orders.proofs.complex_order.Statement.{statement}
 use Rattle.orders.proofs.complex_order.Tie as tie
@@ -18,39 +16,35 @@ work-requires c κs =
     let a = c.before.before.before.before.add-complex in
     let s = c.before.before.before.before.before.before.before.before.before.before in
     record {
-      whole = a.auto.0 ∙ s.requires.order.whole;
-      right = a.ensures.1.right s.requires.order.dense.right;
+      whole = a.auto.0 ∙ s.requires.whole;
+      right = a.ensures.1.right s.requires.dense.right;
       in_use = omega (arith, a.ensures.1.complexes, c.before.before.before.before.before.before.complexes-used.ensures.0);
     }
 
-settle-written-requires : tie.Need-settle-written-requires
-settle-written-requires c κs =
+settle-all-requires : tie.Need-settle-all-requires
+settle-all-requires c κs =
     let w = c.before.before.before.before.before.before.work in
     let a = c.before.before.before.before.before.before.before.before.before.before.before.add-complex in
     let s = c.before.before.before.before.before.before.before.before.before.before.before.before.before.before.before.before.before in
-    record {
-      whole = w.auto.0 ∙ a.auto.0 ∙ s.requires.order.whole;
-      right = w.ensures.1.right (a.ensures.1.right s.requires.order.dense.right);
-      stand = λ z h. work-standing _ _ _ _ _ _ _ (subst AllStanding (sym a.ensures.0) s.requires.stand) w.ensures.0 z h;
-    }
+    record { whole = w.auto.0 ∙ a.auto.0 ∙ s.requires.whole; right = w.ensures.1.right (a.ensures.1.right s.requires.dense.right) }
 
 generate-order-requires : tie.Need-generate-order-requires
 generate-order-requires c κs =
-    let x = c.before.before.before.before.before.before.settle-written in
+    let x = c.before.before.before.before.before.before.settle-all in
     let w = c.before.before.before.before.before.before.before.before.before.before.before.before.before.work in
     let a = c.before.before.before.before.before.before.before.before.before.before.before.before.before.before.before.before.before.before.add-complex in
     let s = c.before.before.before.before.before.before.before.before.before.before.before.before.before.before.before.before.before.before.before.before.before.before.before.before in
-    record { whole = x.auto.0 ∙ w.auto.0 ∙ a.auto.0 ∙ s.pre.order.whole; right = x.ensures.1.right (w.ensures.1.right (a.ensures.1.right s.pre.order.dense.right)) }
+    record { whole = x.auto.0 ∙ w.auto.0 ∙ a.auto.0 ∙ s.pre.whole; right = x.ensures.1.right (w.ensures.1.right (a.ensures.1.right s.pre.dense.right)) }
 
 returns : tie.Need-returns
 returns c =
     let g = c.before.before.before.before.generate-order in
-    let x = c.before.before.before.before.before.before.before.before.before.before.before.settle-written in
+    let x = c.before.before.before.before.before.before.before.before.before.before.before.settle-all in
     let w = c.before.before.before.before.before.before.before.before.before.before.before.before.before.before.before.before.before.before.work in
     let a = c.before.before.before.before.before.before.before.before.before.before.before.before.before.before.before.before.before.before.before.before.before.before.before.add-complex in
     let u = c.before.before.before.before.before.before.before.before.before.before.before.before.before.before.before.before.before.before.before.before.before.before.before.before.before.complexes-used in
     let s = c.before.before.before.before.before.before.before.before.before.before.before.before.before.before.before.before.before.before.before.before.before.before.before.before.before.before.before.before.before in (
-      complex-law s.args.number s.args.c _ _ _ _ _ _ _ _ _ _ _ _ _ _ (u.ensures.0 ∙ sym (dense-complex s.args.numbers.now s.pre.order.dense))
+      complex-law s.args.number s.args.c _ _ _ _ _ _ _ _ _ _ _ _ _ _ (u.ensures.0 ∙ sym (dense-complex s.args.numbers.now s.pre.dense))
           (a.ensures.0 ∙ ap (λ (k : ℕ). put_complex k s.args.c (venue_of s.args.numbers.now)) (sym u.ensures.0)) w.ensures.0 x.ensures.0 g.ensures.0,
       counts-more _ _ _ _ _ a.ensures.1 (counts-on _ _ _ (counts-on _ _ _ w.ensures.1 x.ensures.1) g.ensures.1),
     )
@@ -62,7 +56,7 @@ complex-order-spec =
     (λ c κs. search rules)
     (λ c κs. search rules)
     work-requires
-    settle-written-requires
+    settle-all-requires
     generate-order-requires
     (λ c. search rules)
     (λ c. search rules)

@@ -95,7 +95,7 @@ module _ {M : Type 1} {𝓤 : Ura M} (𝓛 : Logic 𝓤) (mem : Memory → SProp
   abbrev Own : Fml
   Own = (ShrSlice (named 0) κ u8).own_val s (v ∷ [])
 
-  -- the call of `reader_at`: what it is passed, what it requires, and what is known of its result
+  -- the call of `reader_at`: what it is passed, what it asks, and what is known of its result
   abbrev to_made : (Made 𝓛 mem run).Ghost
   to_made = (((κ, tt), (q, tt), tt, (s, (n, tt)), (v ∷ [], (vint w64 n ∷ [], tt))), tt)
 

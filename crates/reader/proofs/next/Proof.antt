@@ -109,7 +109,7 @@ module _ {M : Type 1} {𝓤 : Ura M} (𝓛 : Logic 𝓤) (mem : Memory → SProp
   asked : ent 𝓤 (on_entry 𝓛 head.signature (κ, tt) (q, tt) (d.messages, (d.at, tt)) passed) ((HeadAt 𝓛 mem run).pre to)
   asked = qed 𝓛 ((‵ (flft κ q) ⊛ ‵ ftrue) ∷ ‵ (owns (ShrSlice (named 0) κ u8 ∷ usize ∷ []) (d.messages, (d.at, tt)) passed) ∷ []) ∵ join ! $ frame ! $ done !
 
-  -- what the struct owns gives what the callee requires, and is kept
+  -- what the struct owns gives what the callee asks, and is kept
   apart : d.at < 2 ^ 64 → ent 𝓤 (on_entry 𝓛 next.signature (κ, tt) (q, tt) (d, tt) (mach ∷ [], tt)) (sep 𝓤 ((HeadAt 𝓛 mem run).pre to) (sem 𝓛 Own))
   apart fits =
       qed 𝓛 ((‵ (flft κ q) ⊛ ‵ ftrue) ∷ ‵ (owns (B (κ, tt) ∷ []) (d, tt) (mach ∷ [], tt)) ∷ []) ∵

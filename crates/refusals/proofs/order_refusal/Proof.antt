@@ -8,7 +8,7 @@ use Rattle.rules.specs.declared.Message.TheVariants.{Order}
 use Rattle.rules.specs.Words.{closed}
 use Rattle.rules.specs.Refusals.{off_increment, edition_too_low, in_use, no_edition_left, id_too_low, on_closed, full, unknown}
 use Rattle.places.specs.Layout.{venue_of}
-use Rattle.places.proofs.Orderly.{regular-side}
+use Rattle.venue_numbers.proofs.Loaded.{regular-side}
 use Rattle.place_writes.proofs.Closed.{dense-regular}
 use Rattle.refusals.proofs.RefusalFound.{refuses-off, refuses-low, refuses-closed, refuses-full, accepts}
 use borrow.Author.Rules.{rules}

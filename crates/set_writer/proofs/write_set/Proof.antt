@@ -7,7 +7,6 @@ use borrow.Author.Tests.{not-true, not-false}
 use borrow.Author.Rules.{rules}
 use Rattle.rules.specs.declared.Venue.{Venue}
 use Rattle.rules.specs.Sound.{sound, follows}
-use Rattle.venue_bytes.specs.Held.{venue_from}
 use Rattle.sets.specs.Set.{set_of, joined}
 use Rattle.set_parts.specs.SetMemory.{set_memory, ◌adds◌}
 use Rattle.set_parts.proofs.SetMemoryLaws.{adds_same}
@@ -15,37 +14,29 @@ use Rattle.set_writer.proofs.SavingLaws.{not_carried, no_room, all-written}
 use Rattle.set_writer.proofs.write_set.Statement.{statement}
 use Rattle.set_writer.proofs.write_set.Tie as tie
 
--- the venue that the bytes stand for
-abbrev held : tie.Start → Venue
-held s = venue_from s.args.venue.now
-
--- what was known at first
-abbrev start : tie.Else1 → tie.Start
-start c = c.before.before.before.before.before.before
-
 -- the venue is carried
-passed : (c : tie.Else1) → (sound (held (start c)) && follows (suc (start c).args.number) (held (start c))) ≡ true
-passed c = sym c.before.before.load-bytes-ready.ensures.answer ∙ not-false _ c.if1.false
+passed : (c : tie.Else1) →
+    (sound c.before.before.before.before.before.args.venue && follows (suc c.before.before.before.before.before.args.number)
+    c.before.before.before.before.before.args.venue) ≡ true
+passed c = sym c.before.before.load-ready.ensures.answer ∙ not-false _ c.if1.false
 
 -- its set is written
-put : (c : tie.After-put-set) → (let s = start c.before.before.before in
-    set_memory c.put-set.new.1.1.0 c.put-set.result ≡ set_memory s.args.memory.now 0 adds joined (set_of s.args.number (held s)))
-put c =
-    let s = start c.before.before.before in
-    adds_same _ _ _ _ c.put-set.ensures
-    (ap (λ (v : Venue). joined (set_of s.args.number v))
-    (c.before.before.before.before.before.load-bytes-ready.ensures.loaded (not-false _ c.before.before.before.if1.false)).venue)
+put : (c : tie.After-put-set) → set_memory c.put-set.new.1.1.0 c.put-set.result ≡ set_memory
+    c.before.before.before.before.before.before.before.before.args.memory.now 0 adds joined
+    (set_of c.before.before.before.before.before.before.before.before.args.number
+    c.before.before.before.before.before.before.before.before.args.venue)
+put c = adds_same _ _ _ _ c.put-set.ensures
+    (ap (λ (v : Venue). joined (set_of c.before.before.before.before.before.before.before.before.args.number v))
+    (c.before.before.before.before.before.load-ready.ensures.loaded (not-false _ c.before.before.before.if1.false)).venue)
 
 returns : tie.Need-returns
-returns c =
-    let s = c.before.before.before.before.before.before.before.before.before.before in
-    c.before.before.refuse.ensures
-    ∙ not_carried (held s) s.args.number s.args.memory.now
-    (sym c.before.before.before.before.before.before.load-bytes-ready.ensures.answer ∙ not-true _ c.before.before.before.before.if1.true)
+returns c = let s = c.before.before.before.before.before.before.before.before.before in c.before.before.refuse.ensures ∙ not_carried
+    s.args.venue s.args.number s.args.memory.now
+    (sym c.before.before.before.before.before.before.load-ready.ensures.answer ∙ not-true _
+    c.before.before.before.before.if1.true)
 
 put-set-requires : tie.Need-put-set-requires
-put-set-requires c κs =
-    record { whole = search rules; dense = (c.before.before.before.before.load-bytes-ready.ensures.loaded (not-false _ c.before.before.if1.false)).dense }
+put-set-requires c κs = record { whole = search rules; dense = (c.before.before.before.before.load-ready.ensures.loaded (not-false _ c.before.before.if1.false)).dense }
 
 returns-2 : tie.Need-returns-2
 returns-2 c = c.before.before.refuse2.ensures ∙ no_room _ _ _

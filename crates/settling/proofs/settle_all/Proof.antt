@@ -6,7 +6,6 @@ use Rattle.rules.specs.Standing.{verdict, settle}
 use Rattle.records.specs.Seen.{seen}
 use Rattle.records.specs.Stage.{◌does◌}
 use Rattle.places.proofs.Beside.{counts-on}
-use Rattle.settling.proofs.Asking.{every-asked}
 use borrow.Author.Rules.{rules}
 use Rattle.settling.proofs.settle_all.Statement.{statement}
 use Rattle.settling.proofs.settle_all.Tie as tie
@@ -15,7 +14,7 @@ remove-failing-requires : tie.Need-remove-failing-requires
 remove-failing-requires c κs =
     let p4 = c.before.before.before.before in
     let s = p4.before.before.before.before in
-    record { whole = p4.show-again.auto.0 ∙ s.requires.whole; right = p4.show-again.ensures.1.right s.requires.right; others = every-asked _ }
+    record { whole = p4.show-again.auto.0 ∙ s.requires.whole; right = p4.show-again.ensures.1.right s.requires.right }
 
 returns : tie.Need-returns
 unfolding settle

@@ -1,52 +1,37 @@
 -- `settling::verdicts` meets its contract.
-use mathlib.Core.Path.{sym, ◌∙◌}
+use Rattle.settling.proofs.CausesFound.{CausesFrom, number_small, causes-none, causes-room, causes-free, causes-on, causes-all}
 use native.Mathlib.Omega.{arith}
-use borrow.Author.Tests.{not-true}
-use Rattle.settling.proofs.CausesFound.{CausesFrom, number_small, causes-room, causes-past, causes-on, causes-all}
-use Rattle.settling.proofs.Asking.{causes-start, unasked-stands}
 use borrow.Author.Rules.{rules}
 use Rattle.settling.proofs.verdicts.Statement.{statement}
 use Rattle.settling.proofs.verdicts.Tie as tie
 
 abbrev invariant-loop : tie.invariant-loop
-invariant-loop b g s k causes₀ n₀ causes n = CausesFrom b causes n
+invariant-loop b g causes₀ n₀ causes n = CausesFrom b causes n
 
 abbrev decreases-loop : tie.decreases-loop
-decreases-loop b g s k causes₀ n₀ causes n = n
+decreases-loop b g causes₀ n₀ causes n = n
 
 loop-holds : tie.Need-loop-init invariant-loop decreases-loop
-loop-holds c = causes-start _ _ _ c.before.requires.others c.before.requires.unasked
+loop-holds c = causes-none _
 
 mul-causes : tie.Need-overflow-mul-causes invariant-loop decreases-loop
 mul-causes c = omega (arith, causes-room _ _ _ c.before.loop.invariant c.loop-test.true)
 
-asks-series-requires : tie.Need-asks-series-requires invariant-loop decreases-loop
-asks-series-requires c κs = record { whole = c.before.before.before.requires.whole; place = omega (arith, c.before.loop.invariant.few, c.loop-test.true) }
-
 loop-again : tie.Need-loop-preserved invariant-loop decreases-loop
 loop-again c =
-    let i = c.before.before.before.loop.invariant in
-    let p = c.before.before.loop-test.true in
-    causes-past _ _ _ i p (unasked-stands _ _ c.before.before.before.before.before.requires.others _ (omega (arith, i.few)) (sym c.before.asks-series.ensures ∙ not-true _ c.if1.true))
-
-judge-requires : tie.Need-judge-requires invariant-loop decreases-loop
-judge-requires c κs =
-    let s = c.before.before.before.before.before.requires in
-    record { whole = s.whole; grid = s.grid; place = omega (arith, c.before.before.before.loop.invariant.few, c.before.before.loop-test.true); figures = s.figures }
+    let p2 = c.before.before in
+    let p3 = p2.before in
+    causes-free _ _ _ p3.before.loop.invariant p3.loop-test.true p2.legging-at.result p2.legging-at.ensures c.if1.true
 
 add-causes : tie.Need-overflow-add-causes invariant-loop decreases-loop
 add-causes c =
-    omega (
-      arith,
-      causes-room _ _ _ c.before.before.before.before.before.loop.invariant c.before.before.before.before.loop-test.true,
-      c.verdict-number.ensures,
-      number_small c.before.judge.result,
-    )
+    let p5 = c.before.before.before.before.before in
+    omega (arith, causes-room _ _ _ p5.before.loop.invariant p5.loop-test.true, c.verdict-number.ensures, number_small c.before.judge.result)
 
 loop-again-2 : tie.Need-loop-preserved-2 invariant-loop decreases-loop
 loop-again-2 c =
-    causes-on _ _ _ c.before.before.before.before.before.loop.invariant c.before.before.before.before.loop-test.true _ c.before.judge.result
-    c.verdict-number.ensures c.before.judge.ensures
+    let p5 = c.before.before.before.before.before in
+    causes-on _ _ _ p5.before.loop.invariant p5.loop-test.true _ c.before.judge.result c.verdict-number.ensures c.before.judge.ensures
 
 returns : tie.Need-returns invariant-loop decreases-loop
 returns c = causes-all _ _ _ c.before.loop.invariant (omega arith)
@@ -60,10 +45,10 @@ verdicts-spec =
     loop-holds
     (λ c. search rules)
     mul-causes
-    asks-series-requires
+    (λ c κs. search rules)
     (λ c. search rules)
     loop-again
-    judge-requires
+    (λ c κs. search rules)
     (λ c κs. search rules)
     (λ c. search rules)
     add-causes

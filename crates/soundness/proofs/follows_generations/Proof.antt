@@ -13,7 +13,7 @@ use Rattle.rules.specs.Words.{no_generations}
 use Rattle.rules.specs.Generation.{generations_of}
 use Rattle.places.specs.Layout.{venue_of}
 use Rattle.places.proofs.Generations.{generations-many}
-use Rattle.venue_reader.proofs.Passes.{rest-past, rest-stop, rest-none}
+use Rattle.sound_places.proofs.Passes.{rest-past, rest-stop, rest-none}
 use Rattle.soundness.proofs.follows_generations.Statement.{statement}
 use Rattle.soundness.proofs.follows_generations.Tie as tie
 
@@ -33,7 +33,7 @@ returns : tie.Need-returns invariant-loop decreases-loop
 returns c =
     let s = c.before.before.before.before.before in
     let n = generations-many s.args.numbers.now in
-    rest-stop (earlier s.args.number) no_generations (venue_of s.args.numbers.now).generations c.before.before.before.loop.s (omega arith) _ refl
+    rest-stop (earlier s.args.number) no_generations (venue_of s.args.numbers.now).generations c.before.before.before.loop.s (omega arith)
     (unfold generations_of in (sym c.before.follows-series.ensures ∙ not-true _ c.if1.true))
     ∙ c.before.before.before.loop.invariant
 
@@ -41,7 +41,7 @@ loop-again : tie.Need-loop-preserved invariant-loop decreases-loop
 loop-again c =
     let s = c.before.before.before.before.before in
     let n = generations-many s.args.numbers.now in
-    rest-past (earlier s.args.number) no_generations (venue_of s.args.numbers.now).generations c.before.before.before.loop.s (omega arith) _ refl
+    rest-past (earlier s.args.number) no_generations (venue_of s.args.numbers.now).generations c.before.before.before.loop.s (omega arith)
     (unfold generations_of in (sym c.before.follows-series.ensures ∙ not-false _ c.if1.false))
     ∙ c.before.before.before.loop.invariant
 

@@ -11,7 +11,7 @@ use Rattle.rules.specs.Base.{all}
 use Rattle.rules.specs.Generation.{generations_of}
 use Rattle.places.specs.Layout.{venue_of}
 use Rattle.places.proofs.Generations.{generations-twenty}
-use Rattle.venue_reader.proofs.Passes.{rest-past, rest-stop, rest-none}
+use Rattle.sound_places.proofs.Passes.{rest-past, rest-stop, rest-none}
 use Rattle.soundness.proofs.follows_series.Statement.{statement}
 use Rattle.soundness.proofs.follows_series.Tie as tie
 
@@ -33,8 +33,9 @@ returns c =
     let l = generations_of (venue_of s.args.numbers.now) s.args.s in
     let n = generations-twenty s.args.numbers.now s.args.s in
     let k = c.before.before.before.loop.k in
-    rest-stop (earlier s.args.number) 0 l k (omega arith) c.before.generation-at.result c.before.generation-at.ensures
-    (le-ltb c.before.generation-at.result s.args.number c.if1.true)
+    rest-stop (earlier s.args.number) 0 l k (omega arith)
+    (ap (earlier s.args.number) (sym c.before.generation-at.ensures) ∙ le-ltb c.before.generation-at.result s.args.number
+    c.if1.true)
     ∙ c.before.before.before.loop.invariant
 
 loop-again : tie.Need-loop-preserved invariant-loop decreases-loop
@@ -43,8 +44,9 @@ loop-again c =
     let l = generations_of (venue_of s.args.numbers.now) s.args.s in
     let n = generations-twenty s.args.numbers.now s.args.s in
     let k = c.before.before.before.loop.k in
-    rest-past (earlier s.args.number) 0 l k (omega arith) c.before.generation-at.result c.before.generation-at.ensures
-    (lt-ltb c.before.generation-at.result s.args.number c.if1.false)
+    rest-past (earlier s.args.number) 0 l k (omega arith)
+    (ap (earlier s.args.number) (sym c.before.generation-at.ensures) ∙ lt-ltb c.before.generation-at.result s.args.number
+    c.if1.false)
     ∙ c.before.before.before.loop.invariant
 
 returns-2 : tie.Need-returns-2 invariant-loop decreases-loop

@@ -1,62 +1,44 @@
 -- `soundness::ids_distinct` meets its contract.
-use mathlib.Core.Path.{ap}
-use Prim.Native.Nat.{◌+◌, ◌-◌, ◌≤◌}
-use native.Mathlib.Omega.{arith}
-use Rattle.rules.specs.declared.Complex.{Complex}
-use Rattle.places.specs.Layout.{venue_of}
-use Rattle.soundness.proofs.Merged.{Passed, passed_first, regulars-passed, complexes-passed, ids-met, regular-passed, complex-passed}
+use mathlib.Core.Path.{◌≡◌, sym, ap, ◌∙◌}
+use Prim.Native.Nat.{ℕ, ◌-◌, ◌≤◌}
+use native.Mathlib.Nat.{sub-zero}
+use borrow.Author.Tests.{not-true, not-false}
+use Rattle.rules.specs.Base.{all}
+use Rattle.rules.specs.Sound.{ids_distinct}
+use Rattle.places.specs.Layout.{upto, regular_in, venue_of}
+use Rattle.soundness.specs.Checked.{is_alone}
+use Rattle.soundness.proofs.Beside.{scan-past, scan-stop, scan-none, ids-scan}
 use borrow.Author.Rules.{rules}
 use Rattle.soundness.proofs.ids_distinct.Statement.{statement}
 use Rattle.soundness.proofs.ids_distinct.Tie as tie
 
 abbrev invariant-loop : tie.invariant-loop
-invariant-loop b n m i₀ j₀ i j = (i ≤ n) × (j ≤ m) × Passed (venue_of b) i j
+invariant-loop b n i₀ i = (i ≤ n) × (all (is_alone (venue_of b)) (upto (regular_in b) i (n - i)) ≡ ids_distinct (venue_of b))
 
 abbrev decreases-loop : tie.decreases-loop
-decreases-loop b n m i₀ j₀ i j = (n - i) + (m - j)
+decreases-loop b n i₀ i = n - i
 
 loop-holds : tie.Need-loop-init invariant-loop decreases-loop
-loop-holds c = (search rules, search rules, passed_first (venue_of c.before.before.before.args.numbers.now))
+loop-holds c = let b = c.before.before.args.numbers.now in
+    (search rules, ap (λ (k : ℕ). all (is_alone (venue_of b)) (upto (regular_in b) 0 k)) (sub-zero _ ∙ c.regulars-used.ensures.0) ∙ ids-scan b)
 
 returns : tie.Need-returns invariant-loop decreases-loop
-returns c =
-    let top = c.before.before in
-    complexes-passed top.before.before.before.before.args.numbers.now _ top.loop.j top.loop.invariant.2 (omega arith)
-
-returns-2 : tie.Need-returns-2 invariant-loop decreases-loop
-returns-2 c =
-    let both = c.before.before in
-    let top = both.before.before.before.before in
-    let s = top.before.before.before.before in
-    ids-met s.args.numbers.now top.loop.i top.loop.j top.loop.invariant.2 s.requires.dense s.requires.complexes (omega arith) (omega arith) _ _
-    both.before.regular-id.ensures (ap (λ (o : Complex). o.id) both.complex-at.ensures) c.if2.true
+returns c = let b = c.before.before.before.before.before.before.before.args.numbers.now in scan-stop (is_alone (venue_of b)) (regular_in b)
+    c.before.before.before.before.loop.i _ c.before.before.before.loop-test.true
+    (ap (is_alone (venue_of b)) (sym c.before.before.regular-at.ensures) ∙ sym c.before.is-alone.ensures ∙ not-true _ c.if1.true)
+    ∙ c.before.before.before.before.loop.invariant.1
 
 loop-again : tie.Need-loop-preserved invariant-loop decreases-loop
-loop-again c =
-    let both = c.before.before.before.before in
-    let top = both.before.before.before.before in
-    let s = top.before.before.before.before in (
-      search rules,
-      search rules,
-      regular-passed s.args.numbers.now top.loop.i top.loop.j top.loop.invariant.2 s.requires.dense s.requires.complexes (omega arith) (omega arith) _ _
-          both.before.regular-id.ensures (ap (λ (o : Complex). o.id) both.complex-at.ensures) c.if3.true,
-    )
+loop-again c = let b = c.before.before.before.before.before.before.before.args.numbers.now in (
+  search rules,
+  scan-past (is_alone (venue_of b)) (regular_in b) c.before.before.before.before.loop.i _
+      c.before.before.before.loop-test.true
+      (ap (is_alone (venue_of b)) (sym c.before.before.regular-at.ensures) ∙ sym c.before.is-alone.ensures ∙ not-false _ c.if1.false)
+      ∙ c.before.before.before.before.loop.invariant.1,
+)
 
-loop-again-2 : tie.Need-loop-preserved-2 invariant-loop decreases-loop
-loop-again-2 c =
-    let both = c.before.before.before.before in
-    let top = both.before.before.before.before in
-    let s = top.before.before.before.before in (
-      search rules,
-      search rules,
-      complex-passed s.args.numbers.now top.loop.i top.loop.j top.loop.invariant.2 s.requires.dense s.requires.complexes (omega arith) (omega arith) _ _
-          both.before.regular-id.ensures (ap (λ (o : Complex). o.id) both.complex-at.ensures) (omega arith),
-    )
-
-returns-3 : tie.Need-returns-3 invariant-loop decreases-loop
-returns-3 c =
-    let top = c.before in
-    regulars-passed top.before.before.before.before.args.numbers.now top.loop.i _ top.loop.invariant.2 (omega arith)
+returns-2 : tie.Need-returns-2 invariant-loop decreases-loop
+returns-2 c = let b = c.before.before.before.before.args.numbers.now in scan-none (is_alone (venue_of b)) (regular_in b) c.before.loop.i _ c.loop-test.false ∙ c.before.loop.invariant.1
 
 pub ids-distinct-spec : {M : Type 1} → statement M
 ids-distinct-spec =
@@ -65,16 +47,11 @@ ids-distinct-spec =
     invariant-loop
     decreases-loop
     (λ c κs. search rules)
-    (λ c κs. search rules)
     loop-holds
+    (λ c κs. search rules)
+    (λ c κs. search rules)
     returns
-    (λ c κs. search rules)
-    (λ c κs. search rules)
-    returns-2
     (λ c. search rules)
     (λ c. search rules)
     loop-again
-    (λ c. search rules)
-    (λ c. search rules)
-    loop-again-2
-    returns-3)
+    returns-2)

@@ -21,8 +21,7 @@ best-regular-requires-2 : tie.Need-best-regular-requires-2
 best-regular-requires-2 c κs = let p = c.before.before.before.before.requires in record { whole = p.whole; right = p.right; series = p.series; side = omega arith }
 
 best-own-requires-2 : tie.Need-best-own-requires-2
-best-own-requires-2 c κs = let p = c.before.before.before.before.before.requires in
-    record { whole = p.whole; best = c.best-regular2.ensures; series = p.series; side = omega arith }
+best-own-requires-2 c κs = let p = c.before.before.before.before.before.requires in record { whole = p.whole; best = c.best-regular2.ensures; series = p.series; side = omega arith }
 
 returns-2 : tie.Need-returns-2
 returns-2 c =

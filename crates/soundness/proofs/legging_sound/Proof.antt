@@ -6,7 +6,7 @@ use Rattle.rules.specs.Standing.{verdict, stands}
 use Rattle.rules.specs.Sound.{legging_sound}
 use Rattle.places.specs.Layout.{venue_of}
 use Rattle.soundness.specs.Checked.{legging_in_range, has_home}
-use Rattle.venue_reader.proofs.Passes.{first-fails, second-fails, third-fails, last-decides}
+use Rattle.sound_places.proofs.Passes.{first-fails, second-fails, third-fails, last-decides}
 use Rattle.places.proofs.Parts.{legging-at}
 use Rattle.soundness.proofs.Beside.{sound-free, sound-held}
 use borrow.Author.Rules.{rules}

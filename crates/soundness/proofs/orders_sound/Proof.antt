@@ -8,14 +8,14 @@ use Rattle.rules.specs.Sound.{apart, leggings_sound, ids_distinct}
 use Rattle.rules.proofs.Tests.{and_in}
 use Rattle.places.specs.Layout.{venue_of}
 use Rattle.soundness.specs.Checked.{on_increments, eight}
-use Rattle.venue_reader.proofs.Passes.{out_of_range, out-of-last, first-fails, second-fails, last-decides}
+use Rattle.sound_places.proofs.Passes.{out_of_range, out-of-last, first-fails, second-fails, last-decides}
 use Rattle.soundness.proofs.CheckedLaws.{orders-are}
 use borrow.Author.Rules.{rules}
 use Rattle.soundness.proofs.orders_sound.Statement.{statement}
 use Rattle.soundness.proofs.orders_sound.Tie as tie
 
 on-increments-requires : tie.Need-on-increments-requires
-on-increments-requires c κs = let s = c.before in record { whole = s.requires.whole; figures = s.requires.dense.right.marked.figures }
+on-increments-requires c κs = let s = c.before in record { whole = s.requires.whole; figures = s.requires.right.marked.figures }
 
 returns : tie.Need-returns
 returns c = let b = c.before.before.before.args.numbers.now in let v = venue_of b in first-fails (on_increments v && ids_distinct v)
@@ -30,7 +30,7 @@ returns-2 c = let b = c.before.before.before.before.before.args.numbers.now in l
     (omega (arith, c.before.before.before.before.shared-slice-known.given 778))
 
 all-apart-requires : tie.Need-all-apart-requires
-all-apart-requires c κs = let s = c.before.before.before.before.before in record { whole = s.requires.whole; right = s.requires.dense.right }
+all-apart-requires c κs = c.before.before.before.before.before.requires
 
 returns-3 : tie.Need-returns-3
 returns-3 c = let b = c.before.before.before.before.before.before.before.args.numbers.now in let v = venue_of b in
@@ -39,11 +39,11 @@ returns-3 c = let b = c.before.before.before.before.before.before.before.args.nu
     (omega (arith, c.before.before.before.before.before.before.shared-slice-known.given 778))
 
 levels-requires : tie.Need-levels-requires
-levels-requires c κs = let s = c.before.before.before.before.before.before.before in record { whole = s.requires.whole; right = s.requires.dense.right }
+levels-requires c κs = record { whole = c.before.before.before.before.before.before.before.requires.whole; right = c.before.before.before.before.before.before.before.requires.right }
 
 leggings-sound-requires : tie.Need-leggings-sound-requires
 leggings-sound-requires c κs = let s = c.before.before.before.before.before.before.before.before in
-    record { whole = s.requires.whole; grid = c.levels.ensures; figures = s.requires.dense.right.marked.figures }
+    record { whole = s.requires.whole; grid = c.levels.ensures; figures = s.requires.right.marked.figures }
 
 returns-4 : tie.Need-returns-4
 returns-4 c = let b = c.before.before.before.before.before.before.before.before.before.args.numbers.now in let v = venue_of b in
@@ -61,7 +61,7 @@ orders-sound-spec =
     (tie.spec
     on-increments-requires
     returns
-    (λ c κs. c.before.before.before.requires)
+    (λ c κs. search rules)
     returns-2
     all-apart-requires
     returns-3

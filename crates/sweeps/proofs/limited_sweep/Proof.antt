@@ -1,20 +1,13 @@
 -- `sweeps::limited_sweep` meets its contract.
-use mathlib.Core.Path.{sym, subst, ◌∙◌}
+use mathlib.Core.Path.{◌∙◌}
 use native.Mathlib.Omega.{arith}
 use Rattle.places.proofs.Parts.{complexes-few}
 use Rattle.sweeps.specs.Round.{round_places}
 use Rattle.places.proofs.Beside.{counts-on}
 use Rattle.sweeps.proofs.RoundLaws.{round-examined, limited-law}
-use Rattle.places.specs.Layout.{venue_of}
-use Rattle.settling.specs.Asked.{AllStanding}
-use Rattle.settling.proofs.Frames.{reached-kept}
-use Rattle.sweeps.proofs.SweepLaws.{works-standing}
 use borrow.Author.Rules.{rules}
 use Rattle.sweeps.proofs.limited_sweep.Statement.{statement}
 use Rattle.sweeps.proofs.limited_sweep.Tie as tie
-
-round-of-requires : tie.Need-round-of-requires
-round-of-requires c κs = c.before.before.before.requires.rising
 
 add-looked : tie.Need-overflow-add-looked
 add-looked c = let r = c.before.round-of.ensures.1 in omega (arith, r.0, r.1, complexes-few c.before.before.before.before.before.args.numbers.now)
@@ -28,35 +21,30 @@ work-round-requires c κs =
     let r = c.before.before.before.before.before.before.before.before.before.before.before.before.before.round-of.ensures.1 in
     let s = c.before.before.before.before.before.before.before.before.before.before.before.before.before.before.before.before.before in
     record {
-      whole = p.auto.0 ∙ s.requires.rising.whole;
-      right = p.ensures.1.right s.requires.rising.dense.right;
+      whole = p.auto.0 ∙ s.requires.whole;
+      right = p.ensures.1.right s.requires.dense.right;
       above = omega (arith, r.0, p.ensures.1.complexes);
       others = omega (arith, r.1, p.ensures.1.complexes);
     }
 
-settle-written-requires : tie.Need-settle-written-requires
-settle-written-requires c κs =
+settle-all-requires : tie.Need-settle-all-requires
+settle-all-requires c κs =
     let w = c.before.before.before.before.before.before.work-round in
     let p = c.before.before.before.before.before.before.before.before.before.before.before.before.before.before.before.put-reached in
     let s = c.before.before.before.before.before.before.before.before.before.before.before.before.before.before.before.before.before.before.before.before.before.before.before.before in
-    record {
-      whole = w.auto.0 ∙ p.auto.0 ∙ s.pre.rising.whole;
-      right = w.ensures.1.right (p.ensures.1.right s.pre.rising.dense.right);
-      stand = λ z h. works-standing _ _ _ _ _ _ _
-          (subst AllStanding (sym p.ensures.0) (reached-kept (venue_of s.args.numbers.now) _ s.pre.stand)) w.ensures.0 z h;
-    }
+    record { whole = w.auto.0 ∙ p.auto.0 ∙ s.pre.whole; right = w.ensures.1.right (p.ensures.1.right s.pre.dense.right) }
 
 generate-round-requires : tie.Need-generate-round-requires
 generate-round-requires c κs =
-    let x = c.before.before.before.before.before.before.settle-written in
+    let x = c.before.before.before.before.before.before.settle-all in
     let w = c.before.before.before.before.before.before.before.before.before.before.before.before.before.work-round in
     let p = c.before.before.before.before.before.before.before.before.before.before.before.before.before.before.before.before.before.before.before.before.before.before.put-reached in
     let r = c.before.before.before.before.before.before.before.before.before.before.before.before.before.before.before.before.before.before.before.before.before.before.before.before.before.before.before.round-of.ensures.1 in
     let s = c.before.before.before.before.before.before.before.before.before.before.before.before.before.before.before.before.before.before.before.before.before.before.before.before.before.before.before.before.before.before.before in
     let n = x.ensures.1.complexes ∙ w.ensures.1.complexes ∙ p.ensures.1.complexes in
     record {
-      whole = x.auto.0 ∙ w.auto.0 ∙ p.kept.0 ∙ s.pre.rising.whole;
-      right = x.ensures.1.right (w.ensures.1.right (p.ensures.1.right s.pre.rising.dense.right));
+      whole = x.auto.0 ∙ w.auto.0 ∙ p.kept.0 ∙ s.pre.whole;
+      right = x.ensures.1.right (w.ensures.1.right (p.ensures.1.right s.pre.dense.right));
       above = omega (arith, r.0, n);
       others = omega (arith, r.1, n);
     }
@@ -64,7 +52,7 @@ generate-round-requires c κs =
 returns : tie.Need-returns
 returns c =
     let g = c.before.before.before.before.generate-round.ensures in
-    let x = c.before.before.before.before.before.before.before.before.before.before.before.settle-written.ensures in
+    let x = c.before.before.before.before.before.before.before.before.before.before.before.settle-all.ensures in
     let w = c.before.before.before.before.before.before.before.before.before.before.before.before.before.before.before.before.before.before.work-round.ensures in
     let p = c.before.before.before.before.before.before.before.before.before.before.before.before.before.before.before.before.before.before.before.before.before.before.before.before.before.before.before.put-reached.ensures in
     let r = c.before.before.before.before.before.before.before.before.before.before.before.before.before.before.before.before.before.before.before.before.before.before.before.before.before.before.before.before.before.before.before.before.round-of in
@@ -79,14 +67,14 @@ pub limited-sweep-spec : {M : Type 1} → statement M
 limited-sweep-spec =
     tie.close
     (tie.spec
-    round-of-requires
+    (λ c κs. search rules)
     add-looked
     cast-looked
     (λ c κs. search rules)
     (λ c κs. search rules)
     (λ c κs. search rules)
     work-round-requires
-    settle-written-requires
+    settle-all-requires
     generate-round-requires
     (λ c. search rules)
     (λ c. search rules)

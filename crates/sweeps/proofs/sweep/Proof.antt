@@ -2,7 +2,7 @@
 use mathlib.Core.Path.{ap, ◌∙◌}
 use native.Mathlib.Omega.{arith}
 use Rattle.sweeps.specs.Round.{places_from}
-use Rattle.sweeps.proofs.SweepLaws.{all-resting, sweep-law, works-standing}
+use Rattle.sweeps.proofs.SweepLaws.{all-resting, sweep-law}
 use borrow.Author.Rules.{rules}
 use Rattle.sweeps.proofs.sweep.Statement.{statement}
 use Rattle.places.proofs.Beside.{counts-on}
@@ -12,18 +12,14 @@ work-places-requires : tie.Need-work-places-requires
 work-places-requires c κs = let s = c.before.before.before.before.before.before in
     record { whole = s.requires.whole; right = s.requires.dense.right; in_use = omega (arith, c.before.before.complexes-used.ensures.0) }
 
-settle-written-requires : tie.Need-settle-written-requires
-settle-written-requires c κs = let w = c.before.before.before.before.before.before.work-places in
+settle-all-requires : tie.Need-settle-all-requires
+settle-all-requires c κs = let w = c.before.before.before.before.before.before.work-places in
     let s = c.before.before.before.before.before.before.before.before.before.before.before.before.before in
-    record {
-      whole = w.auto.0 ∙ s.requires.whole;
-      right = w.ensures.1.right s.requires.dense.right;
-      stand = λ z h. works-standing _ _ _ _ _ _ _ s.requires.stand w.ensures.0 z h;
-    }
+    record { whole = w.auto.0 ∙ s.requires.whole; right = w.ensures.1.right s.requires.dense.right }
 
 generate-places-requires : tie.Need-generate-places-requires
 generate-places-requires c κs =
-    let x = c.before.before.before.before.before.before.settle-written in
+    let x = c.before.before.before.before.before.before.settle-all in
     let w = c.before.before.before.before.before.before.before.before.before.before.before.before.before.work-places in
     let u = c.before.before.before.before.before.before.before.before.before.before.before.before.before.before.before.before.complexes-used in
     let s = c.before.before.before.before.before.before.before.before.before.before.before.before.before.before.before.before.before.before.before.before in record {
@@ -35,7 +31,7 @@ generate-places-requires c κs =
 returns : tie.Need-returns
 returns c =
     let g = c.before.before.before.before.generate-places in
-    let x = c.before.before.before.before.before.before.before.before.before.before.before.settle-written in
+    let x = c.before.before.before.before.before.before.before.before.before.before.before.settle-all in
     let w = c.before.before.before.before.before.before.before.before.before.before.before.before.before.before.before.before.before.before.work-places in
     let u = c.before.before.before.before.before.before.before.before.before.before.before.before.before.before.before.before.before.before.before.before.before.complexes-used in
     let s = c.before.before.before.before.before.before.before.before.before.before.before.before.before.before.before.before.before.before.before.before.before.before.before.before.before in (
@@ -50,7 +46,7 @@ sweep-spec =
     (tie.spec
     (λ c κs. search rules)
     work-places-requires
-    settle-written-requires
+    settle-all-requires
     generate-places-requires
     (λ c. search rules)
     (λ c. search rules)

@@ -1,7 +1,7 @@
 -- `venue_numbers::count_beside` meets its contract.
 use native.Mathlib.Omega.{arith}
 use lib.ListN.{length-set}
-use Rattle.venue_numbers.proofs.Counted.{beside-counted}
+use Rattle.venue_numbers.proofs.Loaded.{beside-counted}
 use borrow.Author.Rules.{rules}
 use Rattle.venue_numbers.proofs.count_beside.Statement.{statement}
 use Rattle.venue_numbers.proofs.count_beside.Tie as tie

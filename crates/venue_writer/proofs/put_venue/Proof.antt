@@ -1,15 +1,18 @@
 -- `venue_writer::put_venue` meets its contract.
-use mathlib.Core.Path.{◌≡◌, ap, ◌∙◌}
-use mathlib.Core.List.{List}
+use mathlib.Core.Path.{◌≡◌, sym, ap, ◌∙◌}
+use mathlib.Core.List.{List, map}
 use Prim.Native.Nat.{ℕ}
-use lib.ListN.{length}
+use lib.ListN.{length, length-map}
 use Rattle.records.specs.Seen.{seen, ◌plus◌}
 use Rattle.venue_bytes.specs.Held.{reached_at, Sized}
-use Rattle.venue_writer.proofs.Given.{long}
 use Rattle.venue_writer.proofs.Whole.{venue-put}
 use borrow.Author.Rules.{rules}
 use Rattle.venue_writer.proofs.put_venue.Statement.{statement}
 use Rattle.venue_writer.proofs.put_venue.Tie as tie
+
+-- an array's length
+long : {A B : Type 0} (f : A → B) (l : List A) {n : ℕ} → length (map f l) ≡ n → length l ≡ n
+long f l e = sym (length-map l f) ∙ e
 
 sized : (s : tie.Start) → Sized s.args.v
 sized s =

@@ -189,7 +189,10 @@ fn wrong_uses_are_told() {
         (&["a", "b"], "argument b is one too many"),
         (&["--what"], "option --what is not known"),
         (&[""], "found an empty word"),
-        (&["/a b"], "pkg-config cannot name this folder: /a b"),
+        (
+            &["/a b"],
+            "pkg-config cannot tell a folder of this name: /a b",
+        ),
     ] {
         let error = refused(arguments, 2);
         assert!(

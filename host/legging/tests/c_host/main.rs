@@ -1,7 +1,6 @@
 //! The hosts in C: built without a warning, their output and their exit status; and what
 //! hosts are installed with.
 
-mod batches;
 mod books;
 mod cplusplus;
 mod header;

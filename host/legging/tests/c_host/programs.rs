@@ -93,7 +93,7 @@ pub fn empty_folder(name: &str) -> PathBuf {
     folder
 }
 
-/// Whether a program is installed here; where it is not, a line says so.
+/// Whether a program is installed here; where it is not, that is told.
 pub fn is_installed(program: &str) -> bool {
     let found = Command::new(program)
         .arg("--version")

@@ -34,7 +34,7 @@ fn sheet(arguments: &[&str]) -> (i32, String, String) {
 #[test]
 fn python_prints_the_sheets_of_sessions() {
     let printed = encode_session(SESSION).expect("the stored session is good");
-    // The second report is longer than the memory of the first try.
+    // The second report is longer than the memory that is lent first.
     let long = [4, 0, 6, 0].repeat(10_000);
     let mixed = generate(Profile::Mixed, 5, 300).concat();
     for (name, list) in [("printed", printed), ("long", long), ("mixed", mixed)] {

@@ -40,7 +40,7 @@ fn names(folder: &Path) -> Vec<String> {
     names
 }
 
-/// The answer to the next message on a set.
+/// What the next message upon a set is answered with.
 fn next_line(set: &str) -> String {
     let (status, told, errors) = upgrade(&["--read", set], &SWEEP);
     assert_eq!((status, errors.as_str()), (0, ""));
@@ -101,11 +101,11 @@ fn checksums_of_sets_of_many_lengths() {
     }
 }
 
-/// A set that is refused: the error, and that nothing is printed.
+/// A set that is refused: what is told, and that nothing is printed.
 fn refused(noon: &str) -> String {
     let (status, told, errors) = upgrade(&["--read", noon], &SWEEP);
     assert_eq!((status, told.as_str()), (3, ""), "{errors}");
-    let start = format!("upgrade: {noon} is not what {noon}.sha256 says: ");
+    let start = format!("upgrade: {noon} is not what {noon}.sha256 tells: ");
     assert!(errors.starts_with(&start), "{errors}");
     errors[start.len()..].to_string()
 }
@@ -129,7 +129,7 @@ fn a_set_that_differs_from_what_stands_beside_it_is_refused() {
         std::fs::write(&noon, bytes).expect("written");
         assert_eq!(refused(&noon), format!("{what}{unchecked}"));
     }
-    // That number alone was another one: the engine could not see it.
+    // That number alone was another one: the engine could not tell.
     let (status, told, _) = upgrade(&["--read", &noon, "--unchecked"], &SWEEP);
     assert_eq!((status, told.as_str()), (0, "64 260 0 0 0\n"));
     std::fs::write(&noon, &set).expect("written");

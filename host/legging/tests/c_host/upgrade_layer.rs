@@ -168,7 +168,7 @@ fn what_is_no_layer_is_refused() {
         std::fs::write(&noon, bytes).expect("written");
         let (status, printed, checked) = with_lists("refused", &["--read", &noon], &lists);
         assert_eq!((status, printed.as_str()), (3, ""));
-        let start = format!("upgrade_layer: {noon} is not what {noon}.sha256 says: its ");
+        let start = format!("upgrade_layer: {noon} is not what {noon}.sha256 tells: its ");
         assert!(checked.starts_with(&start), "{checked}");
         let options = ["--read", &noon, "--unchecked"];
         let (status, printed, errors) = with_lists("refused", &options, &lists);

@@ -109,8 +109,8 @@ struct Parts<'a> {
 }
 
 impl<'a> Parts<'a> {
-    /// The parts of a row of records that is a set; nothing if a record is missing, out of
-    /// order, one too many or of a kind that this set does not have.
+    /// The parts of a row of records that is a set; nothing where one is missing, out of
+    /// order, one too many or of a kind that this set has not.
     fn of(records: &'a [Record<'a>]) -> Option<Self> {
         let (first, rest) = records.split_first()?;
         let whole = match first.kind() {
@@ -166,7 +166,7 @@ impl<'a> Parts<'a> {
             && self.reached.len() <= 1
     }
 
-    /// The venue of the set, sound or not; nothing where a record has what no
+    /// The venue that the set tells, sound or not; nothing where a record tells what no
     /// venue has a place for.
     fn venue(&self) -> Option<Venue> {
         let mut venue = Venue {

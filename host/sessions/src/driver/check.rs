@@ -43,19 +43,12 @@ checks! {
     CallShort "call-short" "a one-message call with short report memory"
     CallNumber "call-number" "a one-message call with the last numbers"
     CallBytes "call-bytes" "a one-message call with torn, random or further bytes"
-    CallVenue "call-venue" "a one-message call on a changed venue"
-    CallVenueLength "call-venue-length" "a one-message call on venue memory of another length"
-    CallEditions "call-editions" "a one-message call on a broken row of editions, or with a number about the last"
-    CallReserve "call-reserve" "a one-message call on orders that show otherwise, or another part of them"
-    CallRatios "call-ratios" "a one-message call on complex orders of broken ratios, or of others"
-    CallGenerations "call-generations" "a one-message call on a broken row of generations, or about a ceiling's end"
-    CallBetween "call-between" "a one-message call between runs on a held venue"
-    Messages "messages" "a run on a held venue"
-    MessagesShort "messages-short" "a run on a held venue with report memory of every short length"
-    MessagesNumber "messages-number" "a run on a held venue with the last numbers, or with numbers about the last one kept"
-    MessagesBytes "messages-bytes" "a run on a held venue of a list with torn, changed or random bytes"
-    MessagesVenue "messages-venue" "a run on a changed venue"
-    MessagesLength "messages-length" "a run on a held venue, with other memory of another length"
+    CallVenue "call-venue" "a one-message call upon a changed venue"
+    CallVenueLength "call-venue-length" "a one-message call upon venue memory of another length"
+    CallEditions "call-editions" "a one-message call upon a broken row of editions, or with a number about the last"
+    CallReserve "call-reserve" "a one-message call upon orders that show otherwise, or another part of them"
+    CallRatios "call-ratios" "a one-message call upon complex orders of broken ratios, or of others"
+    CallGenerations "call-generations" "a one-message call upon a broken row of generations, or about a ceiling's end"
     Settings "settings" "the settings of a venue at a message number"
     WriteSet "write-set" "the set of a venue"
     WriteSetShort "write-set-short" "the set of a venue in memory of every length about it"
@@ -87,32 +80,29 @@ impl Check {
         let is = |kind: &str| self.name().starts_with(kind);
         let replay = self == Check::Replay;
         let set = is("write-set") || is("read-set");
-        let messages = is("messages");
-        let venue = is("call") || messages || is("settings") || set || self == Check::Fresh;
+        let venue = is("call") || is("settings") || set || self == Check::Fresh;
         let layer = is("arrive") || is("turn") || self == Check::LayerFresh;
         match part {
             Part::Number => !replay,
             Part::Report if replay => true,
             Part::Venue if replay => true,
             Part::Report | Part::BeforeReport | Part::AfterReport => {
-                let runs = is("run") || is("feed") || messages;
-                runs || is("call") || is("settings") || is("turn")
+                is("run") || is("feed") || is("call") || is("settings") || is("turn")
             }
             Part::Venue | Part::BeforeVenue | Part::AfterVenue => venue,
             Part::Main | Part::Spare => is("feed"),
             Part::Layer | Part::BeforeLayer | Part::AfterLayer => layer,
             Part::Served => is("turn"),
             Part::Set | Part::BeforeSet | Part::AfterSet => set,
-            Part::Told | Part::BeforeTold | Part::AfterTold => set || messages,
+            Part::Told | Part::BeforeTold | Part::AfterTold => set,
         }
     }
 }
 
 macro_rules! parts {
     ($($part:ident $name:literal)+) => {
-        /// A part of an answer. Report memory stands for settings memory too. `Told` is the number
-        /// that a call writes: of a call on a set the bytes written or the message number, of a run
-        /// on a held venue the messages done.
+        /// A part of an answer; settings memory goes by the name of report memory. What calls
+        /// upon sets tell is the bytes written, or the message number.
         #[derive(Clone, Copy, Debug, PartialEq, Eq)]
         pub enum Part {
             $($part,)+

@@ -77,7 +77,7 @@ impl Session<'_, '_> {
         [0, 1, odd, LAYER_BYTES - 1, LAYER_BYTES + 1, 2 * LAYER_BYTES]
     }
 
-    /// A call beside the session, on its layer or another. Returns the bytes written.
+    /// A call beside the session, upon its layer or another. Tells the bytes written.
     fn ask(&mut self, check: Check, asked: &Asked, given: Option<&[u8]>) -> Result<usize, Failed> {
         let layer = (&self.layer[..], given);
         let (_, written) = self.driver.ask(check, asked, layer, false)?;
@@ -141,8 +141,8 @@ impl Session<'_, '_> {
         Ok(())
     }
 
-    /// Layers with a figure, a venue or any byte changed. Many are unsound: 9 comes before the
-    /// refusal of a message that cannot wait.
+    /// Layers with a figure, a venue or any byte changed; many are unsound, which is told
+    /// before that a message cannot wait.
     fn changed_layers(&mut self) -> Checked {
         let Ok(held) = <[u8; LAYER_BYTES]>::try_from(&self.layer[..]) else {
             return Ok(());

@@ -1,10 +1,8 @@
-//! A session of the user's own: each message by a call, lists of 100 messages by runs on a
-//! held venue, all of it by a run from a fresh one, and the sheets.
+//! A session of the user's own: each message by a call, all of it by a run, and the sheets.
 
 use super::check::Check;
 use super::{Driver, Failed};
 use crate::asked::ENOUGH;
-use crate::engine::NUMBER_BYTES;
 use crate::held::VENUE_BYTES;
 use crate::message::split;
 use crate::record::read_report;
@@ -13,9 +11,6 @@ use crate::sheet::Running;
 /// Report memory beyond what just fits.
 const MORE: [usize; 3] = [1, 2, 500];
 
-/// Messages of a list on a held venue.
-const LIST: usize = 100;
-
 /// What was compared.
 #[derive(Debug, PartialEq, Eq)]
 pub struct Compared {
@@ -23,20 +18,19 @@ pub struct Compared {
     pub records: usize,
 }
 
-/// Drives both engines over a list of messages, and compares the sheet with the reference's.
-/// An error names the first difference.
+/// Drives both engines over a list of messages, and holds the sheet to the reference's. An
+/// error tells the first difference.
 pub fn drive_own(driver: &mut Driver, list: &[u8]) -> Result<Compared, String> {
     let told = |(check, what): Failed| format!("{}: {what}", check.words());
     driver.observer.begin();
-    let (venue, report) = calls(driver, list).map_err(told)?;
-    held_runs(driver, list, &venue, &report).map_err(told)?;
+    let report = calls(driver, list).map_err(told)?;
     run(driver, list, &report).map_err(told)?;
     sheet(list, &report)
 }
 
-/// The messages one by one, the first on a fresh venue and each other on the venue that
-/// the last one left. Returns the venue left and the engine's records.
-fn calls(driver: &mut Driver, list: &[u8]) -> Result<(Vec<u8>, Vec<u8>), Failed> {
+/// The messages one by one, the first upon a fresh venue and each other upon the venue that
+/// the last one left. Tells the engine's records.
+fn calls(driver: &mut Driver, list: &[u8]) -> Result<Vec<u8>, Failed> {
     let mut venue = driver.fresh(VENUE_BYTES)?;
     let mut report = Vec::new();
     for (message, before) in split(list).into_iter().zip(0..) {
@@ -44,30 +38,7 @@ fn calls(driver: &mut Driver, list: &[u8]) -> Result<(Vec<u8>, Vec<u8>), Failed>
         report.extend_from_slice(&driver.found.report.memory()[..both.written]);
         venue = left;
     }
-    Ok((venue, report))
-}
-
-/// The messages in lists, the first on a fresh venue and each other on the venue that the
-/// last one left: they leave the venue and write the records of the calls.
-fn held_runs(driver: &mut Driver, list: &[u8], left: &[u8], report: &[u8]) -> Result<(), Failed> {
-    let check = Check::Messages;
-    let mut venue = driver.fresh(VENUE_BYTES)?;
-    let mut records = Vec::new();
-    let mut done = 0;
-    for part in split(list).chunks(LIST) {
-        let lengths = [part.len() * ENOUGH as usize, NUMBER_BYTES];
-        let (both, after) = driver.messages(check, &venue, done, &part.concat(), lengths)?;
-        records.extend_from_slice(&driver.found.report.memory()[..both.written]);
-        done += both.done;
-        venue = after;
-    }
-    match venue == left && records == report {
-        true => Ok(()),
-        false => {
-            let what = "the venue or the records of the runs are not those of the calls";
-            Err((check, what.to_string()))
-        }
-    }
+    Ok(report)
 }
 
 /// The run of all messages, with report memory that just fits and with more; its records are

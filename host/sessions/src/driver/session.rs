@@ -1,7 +1,6 @@
 //! Everything that is compared on one session of the generator.
 
 use super::check::Check;
-use super::held_runs::{HeldRuns, Stages};
 use super::layers::drive_layer;
 use super::sets::{Lengths, Sets};
 use super::{Both, Driver, Failed};
@@ -37,7 +36,7 @@ pub struct Effort {
 }
 
 impl Effort {
-    pub fn times(self, many: usize) -> usize {
+    fn times(self, many: usize) -> usize {
         match self.few {
             true => many.div_ceil(16),
             false => many,
@@ -68,8 +67,8 @@ struct Session<'a, 'b> {
     effort: Effort,
     pieces: Vec<Vec<u8>>,
     list: Vec<u8>,
-    /// What the one-message calls wrote and left.
-    stages: Stages,
+    /// Report bytes after each message.
+    ends: Vec<usize>,
     /// Draws messages and bytes of its own.
     generator: Generator,
     /// Draws the messages whose ends are tried; apart from the other draws, so
@@ -79,14 +78,12 @@ struct Session<'a, 'b> {
     fed: Random,
     /// Draws the sets that are spoiled; apart from the other draws too.
     sets: Random,
-    /// Draws the lists of runs on a held venue; apart from the other draws too.
-    lists: Generator,
 }
 
 type Checked = Result<(), Failed>;
 
-/// Drives both engines through a session: message by message, as runs from a fresh venue and
-/// on a held one, over two lines, as sets, and behind one line with three others.
+/// Drives both engines through a session: message by message, as runs, over two lines, as
+/// sets, and behind one line with three others.
 pub fn drive_session(
     driver: &mut Driver,
     profile: Profile,
@@ -100,12 +97,11 @@ pub fn drive_session(
         driver,
         effort,
         list: pieces.concat(),
-        stages: Stages::default(),
+        ends: Vec::new(),
         generator: Generator::new(profile, !seed),
         chosen: Random::new(seed),
         fed: Random::new(seed ^ (profile as u64 + 1).rotate_left(32)),
         sets: Random::new(!seed ^ (profile as u64 + 1).rotate_left(48)),
-        lists: Generator::new(profile, seed ^ 1 << 63),
         pieces,
     };
     let checked = session.drive_all();
@@ -124,7 +120,6 @@ impl Session<'_, '_> {
     fn drive_all(&mut self) -> Checked {
         let kept = self.list.clone();
         self.calls()?;
-        self.held_runs()?;
         self.whole_runs()?;
         self.short_runs()?;
         self.every_length()?;
@@ -144,7 +139,7 @@ impl Session<'_, '_> {
 
     /// The whole list, with just enough memory and with more.
     fn whole_runs(&mut self) -> Checked {
-        let whole = self.stages.records.len();
+        let whole = self.ends.last().copied().unwrap_or(0);
         let more = [0, 500, 1, 2, 11, 12, ROOM];
         for more in &more[..if self.effort.few { 2 } else { more.len() }] {
             self.driver.run(Check::RunWhole, &self.list, whole + more)?;
@@ -155,7 +150,7 @@ impl Session<'_, '_> {
     /// Report memory that ends at, just before and just after the records of a
     /// message.
     fn short_runs(&mut self) -> Checked {
-        for end in self.stages.ends.split_off(1) {
+        for end in std::mem::take(&mut self.ends) {
             if self.chosen.below(self.effort.one_in) > 0 {
                 continue;
             }
@@ -272,20 +267,20 @@ impl Session<'_, '_> {
         self.driver.fresh(VENUE_BYTES)
     }
 
-    /// The messages one by one, the first on a fresh venue and each other on
+    /// The messages one by one, the first upon a fresh venue and each other upon
     /// the venue that the last one left, with calls beside them.
     fn calls(&mut self) -> Checked {
         let mut venue = self.first_venue()?;
-        self.stages = Stages::new(&venue);
         let pieces = std::mem::take(&mut self.pieces);
+        let mut end = 0;
         let beside = if self.effort.few { 6 } else { 12 };
         for (message, before) in pieces.iter().zip(0..) {
             if self.random().chance(beside) {
                 self.beside(&venue, before, message)?;
             }
             let (both, left) = self.call(Check::Call, &venue, before, message)?;
-            let records = &self.driver.found.report.memory()[..both.written];
-            self.stages.add(records, &left);
+            end += both.written;
+            self.ends.push(end);
             venue = left;
             if matches!(message.get(2), Some(7 | 8)) {
                 self.settings_about(&venue, before)?;
@@ -299,18 +294,6 @@ impl Session<'_, '_> {
         Ok(())
     }
 
-    /// The messages once more, as lists on a held venue.
-    fn held_runs(&mut self) -> Checked {
-        let mut runs = HeldRuns {
-            driver: self.driver,
-            generator: &mut self.lists,
-            effort: self.effort,
-            pieces: &self.pieces,
-            stages: &self.stages,
-        };
-        runs.drive()
-    }
-
     /// A one-message call with room for its records.
     fn call(
         &mut self,
@@ -322,7 +305,7 @@ impl Session<'_, '_> {
         self.driver.call(check, venue, before, message, ROOM)
     }
 
-    /// Sets of a venue on which so many messages were done.
+    /// Sets of a venue upon which so many messages were done.
     fn carried(&mut self, venue: &[u8], number: u32, is_last: bool) -> Checked {
         let lengths = match (self.effort.few, is_last && self.sets.chance(30)) {
             (true, _) => Lengths::AboutTheEnd,
@@ -399,7 +382,7 @@ impl Session<'_, '_> {
         Ok(())
     }
 
-    /// Calls on venues that are broken in a way that has a name: each is unsound.
+    /// Calls upon venues that are broken in a way that has a name: each is unsound.
     fn broken(
         &mut self,
         check: Check,
@@ -438,7 +421,7 @@ impl Session<'_, '_> {
         Ok(())
     }
 
-    /// The message on other orders of the same venue, and then a sweep.
+    /// The message upon other orders of the same venue, and then a sweep.
     fn other_orders(
         &mut self,
         check: Check,

@@ -15,10 +15,10 @@ use reference::MOST_SET;
 const MORE: usize = 14;
 
 /// Memory for any set and its length.
-pub const ENOUGH: [usize; 2] = [MOST_SET, NUMBER_BYTES];
+const ENOUGH: [usize; 2] = [MOST_SET, NUMBER_BYTES];
 
 /// Memory for a venue and its message number.
-pub const WHOLE: [usize; 2] = [VENUE_BYTES, NUMBER_BYTES];
+const WHOLE: [usize; 2] = [VENUE_BYTES, NUMBER_BYTES];
 
 type Checked = Result<(), Failed>;
 
@@ -49,7 +49,7 @@ impl Sets<'_, '_, '_> {
     }
 
     /// The set of the venue; memory of every length up to it and some more; memory of other
-    /// lengths for the number that the call writes.
+    /// lengths for what it tells.
     fn written(&mut self, venue: &[u8], number: u32) -> Result<Vec<u8>, Failed> {
         let check = Check::WriteSet;
         let set = self.driver.write_set(check, venue, number, ENOUGH)?;

@@ -43,7 +43,7 @@ impl Given {
         self.messages.keys().next_back().copied().unwrap_or(0)
     }
 
-    /// The lines of messages beyond the last of a session of so many messages.
+    /// The lines of messages that a session of so many messages has not.
     pub fn beyond(&self, messages: u32) -> usize {
         let beyond = self.messages.range(messages.saturating_add(1)..);
         let before_the_first = self.message(0).len();

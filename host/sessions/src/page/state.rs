@@ -1,4 +1,4 @@
-//! The books of a venue as a page shows them, with every figure that a page shows of them.
+//! The books of a venue as a page shows them, with every figure that a page tells of them.
 
 use super::json::Json;
 use crate::causes::{hider, BandTest, Standing};
@@ -8,8 +8,8 @@ use crate::settings::Figure;
 use crate::view::{find_complex, held_complex, held_regular, leg_at, legs_of, shown, View};
 use reference::{Complex, Legging, Regular, Venue};
 
-/// The books after a message; the conditions of generation are tested for the message with
-/// this number, the next one.
+/// The books after a message; the conditions of generation are those that the message with
+/// this number, the next one, would be asked with.
 pub fn state(venue: &Venue, next: u32) -> Json {
     let books = Books {
         venue,
@@ -143,7 +143,7 @@ impl Books<'_> {
     }
 }
 
-/// A letter for each condition (1 holds, 0 fails, - not tested); price, displayed price and
+/// A letter for each condition (1 holds, 0 fails, - not asked); price, displayed price and
 /// quantity; the legging order that would fail its test.
 fn leg(conditions: &Conditions) -> Json {
     let answers = conditions.answers.iter().map(|answer| match answer {

@@ -21,7 +21,7 @@ struct Row {
 }
 
 impl Sums {
-    /// Adds what a sheet says of a message; returns what cannot be added.
+    /// Adds what a sheet says of a message; tells what cannot be added.
     pub fn add(&mut self, message: &Message, said: &[Record]) -> Vec<String> {
         let mut faults = Vec::new();
         if let Some(Record::Answer(Answer { refusal: 0, .. })) = said.first() {

@@ -1,4 +1,4 @@
-//! Audits of sheets: whole ones agree, and of doctored ones the audit finds every false line.
+//! Audits of sheets: whole ones agree, and of doctored ones every false line is told.
 
 use crate::common::{bytes, sheet};
 use sessions::audit::{Auditor, Counts, Disagreement, Row, Source, Told};
@@ -11,7 +11,7 @@ use sessions::sheet_lines::Sheet;
 use sessions::soak::generate;
 use std::collections::BTreeSet;
 
-/// What an audit reported.
+/// What an audit told.
 struct Audited {
     rows: Vec<Row>,
     told: Vec<Disagreement>,
@@ -19,7 +19,7 @@ struct Audited {
 }
 
 impl Audited {
-    /// The messages that the audit names.
+    /// The messages that are told.
     fn messages(&self) -> BTreeSet<u32> {
         self.told.iter().filter_map(|told| told.message).collect()
     }
@@ -55,7 +55,7 @@ fn audit_most(list: &[u8], sheet: Option<&str>, most: u64) -> Audited {
     audited
 }
 
-/// All that an audit of a sheet reports.
+/// All that an audit of a sheet tells.
 fn audit(list: &[u8], sheet: &str) -> Audited {
     audit_most(list, Some(sheet), u64::MAX)
 }
@@ -188,7 +188,7 @@ fn the_first_false_line_of_each_message_is_told_with_what_the_rules_say() {
     }
 }
 
-/// Falsifies answers: left out, doubled, moved, with a false number; returns how.
+/// Falsifies answers: left out, doubled, moved, with a false number; tells how.
 fn doctor_answers(groups: &mut Vec<Vec<String>>, at: usize, random: &mut Random) -> &'static str {
     let with_number = |line: &str, number: u64| {
         let rest = line.splitn(3, ' ').nth(2).unwrap();

@@ -14,7 +14,7 @@ use sessions::soak::generate;
 const STANDING: &str = "order 1 sell 15 series 0 at 130\norder 2 sell 12 series 1 at 90\n\
     order 3 sell 20 series 1 at 95\ncomplex 5 buy 0 buy 1 class 1 net 205 quantity 8\n";
 
-/// The explanation of the last message of a session.
+/// What is told of the last message of a session.
 fn told(session: &str) -> Vec<String> {
     let list = bytes(session);
     let mut explainer = Explainer::default();
@@ -261,7 +261,7 @@ fn explaining_keeps_no_more_of_a_long_session_than_of_a_short_one() {
     assert_eq!(explainer.accounts(), 1);
 }
 
-/// The explanation of one order, message by message.
+/// What is told of one order, message by message.
 fn followed(session: &str, id: u32) -> Vec<(u32, Vec<String>)> {
     let list = bytes(session);
     let mut explainer = Explainer::default();

@@ -30,7 +30,6 @@ fn lines<const N: usize>(lines: [&str; N]) -> Vec<String> {
 
 const NEXT: &str = "complex 100 buy 0 buy 1 class 1 net 205 quantity 8";
 
-// rule: (m)1
 #[test]
 fn the_20th_of_a_series_in_256_messages_is_generated_and_the_21st_is_not() {
     let made = ["67 100 0 0 115 115 8", "67 100 1 0 75 75 8"];

@@ -31,12 +31,12 @@ pub fn venue_after(text: &str) -> Venue {
     run_whole(&bytes(text)).0.venue
 }
 
-/// The first message on a venue, with guarded junk memory; returns the sheet too.
+/// The first message upon a venue, with guarded junk memory; tells the sheet too.
 pub fn one(venue: &Venue, message: &[u8]) -> (Returned, String) {
     one_after(venue, 0, message)
 }
 
-/// A message on a venue on which `before` messages were done.
+/// A message upon a venue before which so many went.
 pub fn one_after(venue: &Venue, before: u32, message: &[u8]) -> (Returned, String) {
     let mut lent = Lent::new();
     let returned = one_message(venue, before, message, lent.lend(16_384));

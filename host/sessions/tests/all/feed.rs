@@ -10,7 +10,7 @@ use sessions::text::encode_line;
 
 const ROOM: usize = 4_096;
 
-/// The call on two lines of bytes, with guarded junk memory; returns the sheet too.
+/// The call upon two lines of bytes, with guarded junk memory; tells the sheet too.
 fn feed_bytes(main: &[u8], spare: &[u8], room: usize) -> (Returned, String) {
     let mut lent = Lent::new();
     let returned = feed(main, spare, lent.lend(room));
@@ -89,7 +89,7 @@ fn differing_bytes_are_19_and_what_went_before_stands() {
         assert_eq!(fed(&spare, "1 sweep\n2 sweep\n3 sweep\n", ROOM), expected);
     }
     assert_eq!(fed("1 sweep\n", "1 cancel 1\n", ROOM), (19, String::new()));
-    // The first of two messages that differ stops it; later ones are not compared.
+    // The first of two messages that differ stops it; later ones are not asked.
     let (main, spare) = ("1 sweep\n2 open 0\n3 sweep\n", "2 open 1\n3 cancel 1\n");
     assert_eq!(fed(main, spare, ROOM), (19, "64 1 0 0 0\n".to_string()));
 }

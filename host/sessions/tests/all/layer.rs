@@ -10,7 +10,7 @@ use sessions::text::encode_session;
 
 const SWEEP: [u8; 4] = [4, 0, 6, 0];
 
-/// A turn with guarded junk memory; returns the sheet too.
+/// A turn with guarded junk memory; tells the sheet too.
 fn turn_in(layer: &mut Layer, room: usize) -> (Turned, String) {
     let mut lent = Lent::new();
     let turned = turn(layer, lent.lend(room));
@@ -18,7 +18,7 @@ fn turn_in(layer: &mut Layer, room: usize) -> (Turned, String) {
     (turned, print_sheet(&records))
 }
 
-/// Plays a script on a layer: the arrivals' numbers, and each turn's number and venue.
+/// Plays a script upon a layer: the arrivals' numbers, and each turn's number and venue.
 fn played(layer: &mut Layer, text: &str) -> (Vec<u8>, Vec<(u8, u8)>) {
     let (mut arrivals, mut turns) = (Vec::new(), Vec::new());
     for (_, asked) in parse_script(text).unwrap() {
@@ -197,7 +197,7 @@ fn a_turn_ended_by_10_changes_nothing_and_is_tried_again_at_the_same_venue() {
         assert_eq!(layer, given);
     }
     assert_eq!(turn_in(&mut layer, 12).0.served, 1);
-    // Message numbers used up: 10 however much memory there is, and the others wait.
+    // Message numbers used up: 10 however much memory is lent, and the others wait.
     layer.lanes[2].done = u32::MAX;
     arrive(&mut layer, 3, &SWEEP);
     let given = layer.clone();

@@ -6,7 +6,6 @@ mod ceiling;
 mod common;
 mod driver;
 mod feed;
-mod held_runs;
 mod layer;
 mod moments;
 mod page;

@@ -212,7 +212,7 @@ fn order_shows_again_when_its_message_ends_and_not_before() {
     assert_eq!(spoiled(session, again, "65 0 0 135 4 5 3\n")[0], expected);
 }
 
-/// Crosses at the highest net that the best regular prices of one party allow.
+/// Crosses at a net that the best regular prices of one party allow just so.
 const ABOVE_TAKER: &str = "away 0 bid 0 offer 101\naway 1 bid 0 offer 51\n\
     order 1 buy 5 series 0 at 100\norder 2 buy 5 series 1 at 50\n\
     complex 3 buy 0 buy 1 class 0 net 150 quantity 5\n\

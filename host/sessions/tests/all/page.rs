@@ -228,7 +228,7 @@ fn place_of(declined: &Declined) -> usize {
     }
 }
 
-/// The first condition that fails is the one at which generation stops; returns its place.
+/// The first condition told to fail is the one at which generation stops; tells its place.
 fn check_leg(state: &Json, number: u32, venue: &Venue, order: &Complex, which: usize) -> usize {
     let leg = of(of(state, "legs"), &order.id.to_string()).items()[which].items();
     let answers = leg[0].as_text().unwrap();
@@ -305,7 +305,7 @@ fn explain_tells_the_first_condition_that_fails() {
         for (at, step) in steps(data).iter().enumerate() {
             let records = of(step, "records").items();
             let made = |record: &Json| record.items()[0].as_number() == Some(67);
-            // Orders made after a leg was tested change what its test would find now.
+            // Orders made after a leg was asked change what it would be asked now.
             if records.iter().any(made) {
                 continue;
             }

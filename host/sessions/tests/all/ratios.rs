@@ -303,7 +303,6 @@ fn cross_respects_the_legs_by_their_ratios() {
     assert_eq!(sell(249), legs_in);
 }
 
-// rule: (g)6
 #[test]
 fn order_of_unequal_ratios_never_generates() {
     let text = with_offers("complex 3 buy 0 buy 1 class 1 net 335 quantity 8 ratio 2 1\n");
@@ -334,7 +333,6 @@ fn with_one(bids: &str, rest: &str) -> String {
     with_offers(&format!("{made}{bids}{rest}"))
 }
 
-// rule: (g)7
 #[test]
 fn touch_that_cannot_fill_a_unit_removes_both_with_10() {
     let both = |cause: u8| [format!("68 3 0 0 {cause}"), format!("68 3 1 0 {cause}")];

@@ -92,7 +92,6 @@ fn kind_1_is_kind_9_that_shows_all() {
     assert_eq!(venue_after(plain), venue_after(shows));
 }
 
-// rule: (e)2
 #[test]
 fn at_one_price_all_shown_size_by_id_then_all_reserve_by_id() {
     let bids = "order 1 buy 5 series 0 at 115 shows 2\norder 2 buy 3 series 0 at 115\n";
@@ -263,7 +262,7 @@ fn other_leg_of_a_hit_takes_shown_size_and_shows_again() {
 
 #[test]
 fn standing_test_counts_the_size_shown() {
-    // 5 and 3 are shown at 90, and 8 depend on them; 3 go, and 7 in reserve do not help.
+    // 5 and 3 are shown at 90, and 8 stand upon it; 3 go, and 7 in reserve do not help.
     let text = "order 1 sell 15 series 0 at 130\norder 2 sell 12 series 1 at 90 shows 5\n\
         order 3 sell 3 series 1 at 90\ncomplex 4 buy 0 buy 1 class 1 net 205 quantity 8\n\
         cancel 3\n";

@@ -24,7 +24,6 @@ fn order_rests_with_what_does_not_cross() {
     assert_eq!(venue.regular[1].quantity, 0);
 }
 
-// rule: O1
 #[test]
 fn legging_order_at_a_better_own_price_is_met_before_regular() {
     let text = with_legging("order 4 buy 2 series 0 at 110\norder 5 sell 10 series 0 at 110\n");
@@ -40,7 +39,6 @@ fn legging_order_at_a_better_own_price_is_met_before_regular() {
     assert_eq!(last_lines(&text), expected);
 }
 
-// rule: O2
 #[test]
 fn hit_trades_at_the_own_price_not_the_displayed_one() {
     let text = with_offers(
@@ -57,7 +55,6 @@ fn hit_trades_at_the_own_price_not_the_displayed_one() {
     assert_eq!(last_lines(&text), expected);
 }
 
-// rule: O3
 #[test]
 fn hit_takes_the_other_leg_by_id_at_an_improved_price() {
     let text = with_legging(
@@ -101,7 +98,6 @@ fn what_is_left_of_an_order_after_a_hit_rests_and_settles() {
     assert_eq!(venue.regular[2].quantity, 2);
 }
 
-// rule: S3
 #[test]
 fn cause_1_when_a_regular_price_is_better_than_the_displayed_one() {
     let text = with_offers(
@@ -118,7 +114,6 @@ fn no_cause_1_when_a_regular_price_equals_the_displayed_one() {
     assert_eq!(last_lines(&text), ["64 6 0 5 2"]);
 }
 
-// rule: S4
 #[test]
 fn cause_2_when_the_size_falls_below_the_quantity() {
     let text = with_legging("order 4 buy 5 series 1 at 90\n");
@@ -126,16 +121,6 @@ fn cause_2_when_the_size_falls_below_the_quantity() {
     assert_eq!(last_lines(&text), expected);
     let text = with_legging("order 4 buy 4 series 1 at 90\n");
     assert_eq!(last_lines(&text), ["64 6 0 5 2", "65 1 0 90 4 4 2"]);
-}
-
-// rule: S4
-#[test]
-fn cause_2_when_the_net_with_the_clear_price_rises_above_the_limit() {
-    let text = with_offers(
-        "order 3 sell 20 series 1 at 95\n\
-         complex 4 buy 0 buy 1 class 1 net 205 quantity 20\ncancel 2\n",
-    );
-    assert_eq!(last_lines(&text), ["64 7 0 4 1", "71 2 12", "68 4 0 0 2"]);
 }
 
 #[test]
@@ -168,21 +153,12 @@ fn cause_5_is_told_where_2_applies_too() {
     assert_eq!(last_lines(&small_offer(120)), ["64 7 0 4 1", "68 3 0 0 2"]);
 }
 
-// rule: C10
 #[test]
 fn cause_4_follows_the_cancel_of_the_parent() {
     let expected = ["64 6 0 0 0", "71 3 8", "68 3 0 0 4", "68 3 1 0 4"];
     assert_eq!(last_lines(&with_legging("cancel 3\n")), expected);
 }
 
-// rule: C10
-#[test]
-fn cancel_of_a_complex_order_leaves_the_legging_orders_of_another() {
-    let text = with_legging("complex 4 buy 2 buy 1 class 1 net 205 quantity 8\ncancel 4\n");
-    assert_eq!(last_lines(&text), ["64 7 0 5 2", "71 4 8"]);
-}
-
-// rule: S2
 #[test]
 fn cause_5_when_an_away_price_moves_the_band() {
     let text = with_legging("away 0 bid 0 offer 60\n");
@@ -192,7 +168,6 @@ fn cause_5_when_an_away_price_moves_the_band() {
     );
 }
 
-// rule: S1
 #[test]
 fn cause_6_in_auction_and_in_closed_series() {
     let expected = ["64 6 0 0 0", "68 3 0 0 6", "68 3 1 0 6"];
@@ -200,7 +175,6 @@ fn cause_6_in_auction_and_in_closed_series() {
     assert_eq!(last_lines(&with_legging("close 0\n")), expected);
 }
 
-// rule: (C)(4)(vii)
 #[test]
 fn cause_7_by_a_better_price() {
     let text = with_legging("complex 4 buy 0 buy 1 class 1 net 206 quantity 9\n");
@@ -214,7 +188,6 @@ fn cause_7_by_a_better_price() {
     assert_eq!(last_lines(&text), expected);
 }
 
-// rule: G8
 #[test]
 fn cause_7_at_an_equal_price_by_class_0_only() {
     let text = with_legging("complex 4 buy 0 buy 1 class 0 net 205 quantity 9\n");
@@ -236,7 +209,6 @@ fn replacement_asks_own_prices_not_displayed_ones() {
     assert_eq!(last_lines(&text), ["64 6 0 5 2"]);
 }
 
-// rule: C4
 #[test]
 fn cause_8_when_the_best_own_prices_reach_the_limit() {
     let text = with_legging("complex 4 sell 0 sell 1 class 1 net -190 quantity 5\n");
@@ -277,7 +249,6 @@ fn second_named_leg_trades_second() {
     assert_eq!(last_lines(&text), expected);
 }
 
-// rule: C5
 #[test]
 fn legging_in_asks_the_band_of_its_net() {
     let text =
@@ -297,7 +268,6 @@ fn legging_in_asks_the_band_of_its_net() {
 
 const QUOTES: &str = "open 0\nopen 1\naway 0 bid 95 offer 105\naway 1 bid 95 offer 105\n";
 
-// rule: C2, C3
 #[test]
 fn cross_takes_the_highest_limit_then_the_earliest_whichever_leg_is_named_first() {
     let text = format!(
@@ -400,7 +370,6 @@ fn cross_asks_no_away_price_and_no_legging_price_of_the_legs() {
     assert_eq!(last_lines(&text), ["64 11 0 2 1", "70 6 1 -208 3"]);
 }
 
-// rule: C6
 #[test]
 fn cross_removes_the_legging_orders_of_the_maker() {
     let text = with_offers(
@@ -451,7 +420,6 @@ fn sweep_passes_over_orders_in_a_closed_series_but_not_in_auction() {
     assert_eq!(last_lines(&auction), expected);
 }
 
-// rule: A6, G2
 #[test]
 fn order_in_auction_trades_and_no_legging_order_is_made_there() {
     let text = "auction 0\nopen 1\norder 1 sell 15 series 0 at 130\n\
@@ -472,7 +440,6 @@ fn relying_on_a_bid(limit: i32) -> Vec<String> {
     last_lines(&text)
 }
 
-// rule: G9
 #[test]
 fn nothing_is_made_that_would_hide_a_price_from_a_standing_order() {
     assert_eq!(relying_on_a_bid(150), ["64 9 0 8 1"]);
@@ -480,7 +447,6 @@ fn nothing_is_made_that_would_hide_a_price_from_a_standing_order() {
     assert_eq!(relying_on_a_bid(140), ["64 9 0 9 2", "67 4 0 0 90 90 5"]);
 }
 
-// rule: G7
 #[test]
 fn price_that_reaches_an_own_or_away_price_opposite_is_not_made() {
     let base = "open 0\nopen 1\norder 1 sell 12 series 1 at 90\n";
@@ -495,7 +461,6 @@ fn price_that_reaches_an_own_or_away_price_opposite_is_not_made() {
     assert_eq!(limit(101), ["64 5 0 1 1", "67 2 0 0 100 100 3"]);
 }
 
-// rule: G6
 #[test]
 fn displayed_price_worse_than_the_book_is_not_made() {
     let at = |bid: u32| {
@@ -509,7 +474,6 @@ fn displayed_price_worse_than_the_book_is_not_made() {
     assert_eq!(at(115)[1], "67 4 1 0 73 70 8");
 }
 
-// rule: P2, S5
 #[test]
 fn failing_order_still_hides_a_clear_price_in_its_settling() {
     let text = "open 0\nopen 1\nopen 2\naway 2 bid 0 offer 70\naway 1 bid 80 offer 0\n\
@@ -541,7 +505,6 @@ const KEPT_APART: &str = "open 0\nopen 1\nopen 2\naway 1 bid 0 offer 100\n\
     complex 6 buy 1 buy 0 class 1 net 215 quantity 3\n\
     complex 7 buy 0 buy 2 class 1 net 150 quantity 7\norder 8 sell 6 series 2 at 50\nsweep\n";
 
-// rule: C9
 #[test]
 fn sweep_works_all_orders_then_settles_then_generates_by_id() {
     let expected = [

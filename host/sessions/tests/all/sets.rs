@@ -41,7 +41,7 @@ fn changed(from: &str, to: &str) -> Vec<u8> {
     set(&SET.replace(from, to))
 }
 
-/// Reads a set, by both readers, and returns the number.
+/// Reads a set, by both readers, and tells the number.
 fn number_of(memory: &[u8]) -> u8 {
     let read = read_set(memory);
     let looked = look_at(memory);

@@ -1,5 +1,5 @@
 //! Increments and the percentage of the band with their dates (request (d)): what
-//! reads them, what they are refused with, what a venue returns of them.
+//! reads them, what they are refused with, what a venue tells of them.
 
 use crate::common::{by_calls, bytes, last_lines, sheet, venue_after, with_legging, with_offers};
 use reference::{one_message, settings, Edition, Settings, Venue};

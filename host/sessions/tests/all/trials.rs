@@ -16,7 +16,6 @@ fn complex_after(setup: &str, limit: i32, quantity: u32) -> Vec<String> {
     last_lines(&with_offers(&format!("{setup}{order}")))
 }
 
-// rule: C8, G1
 #[test]
 fn limit_205_makes_115_and_75() {
     let lines = complex_after("", 205, 8);
@@ -26,7 +25,6 @@ fn limit_205_makes_115_and_75() {
     );
 }
 
-// rule: P4
 #[test]
 fn limit_203_makes_113_shown_110_and_73_shown_70() {
     let lines = complex_after("", 203, 8);
@@ -65,7 +63,6 @@ fn limit_105_with_away_offers_makes_15_in_series_0_and_none_in_1() {
     assert_eq!(lines, ["64 7 0 1 1", "67 3 0 0 15 15 8"]);
 }
 
-// rule: P6
 #[test]
 fn limit_106_with_away_offers_makes_none() {
     assert_eq!(complex_after(AWAY_OFFERS, 106, 8), ["64 7 0 0 0"]);
@@ -82,7 +79,6 @@ fn crosses_at_credit(net: i32) -> bool {
     last_lines(&text).contains(&format!("70 2 1 {net} 5"))
 }
 
-// rule: P7
 #[test]
 fn market_net_minus_200_has_minus_190_in_band_and_minus_189_not() {
     assert!(crosses_at_credit(-200));
@@ -144,7 +140,6 @@ macro_rules! assert_as_filed {
     };
 }
 
-// rule: O3
 #[test]
 fn filing_generating_legging_orders() {
     assert_as_filed!("1-generating");
@@ -155,7 +150,6 @@ fn filing_execution_of_legging_orders() {
     assert_as_filed!("2-execution");
 }
 
-// rule: S4
 #[test]
 fn filing_removal_no_longer_best_nor_at_the_net_price() {
     assert_as_filed!("3-removal-i-ii");
@@ -186,7 +180,6 @@ fn filing_removal_by_a_trade_with_the_complex_order() {
     assert_as_filed!("8-removal-viii-revised");
 }
 
-// rule: (C)(4)(ix)
 #[test]
 fn filing_removal_of_multiple_legging_orders() {
     assert_as_filed!("9-removal-ix");

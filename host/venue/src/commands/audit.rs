@@ -1,4 +1,4 @@
-//! `venue audit`: compares a session and its sheet with each other and with the rules.
+//! `venue audit`: a session and its sheet, held to each other and to the rules.
 
 use super::Command;
 use crate::arguments::{usage, Arguments};
@@ -15,7 +15,7 @@ use std::io::{self, BufReader, Write};
 pub static COMMAND: Command = Command {
     name: "audit",
     form: "[--text] [--most N] [--json] SESSION [SHEET]",
-    about: "check every line of a sheet, sums of every\ncomplex order, better prices passed over",
+    about: "every line of a sheet held to the rules, sums of\nevery complex order, better prices passed over",
     flags: &["--text", "--bytes", "--json"],
     valued: &["--most"],
     words: 2,
@@ -24,37 +24,37 @@ pub static COMMAND: Command = Command {
 };
 
 const HELP: &str = "\
-Checks every line of a sheet against the rules. SESSION is message bytes, or text with
---text; bytes that look like text are an error, and --bytes takes them as bytes. SHEET is
-the lines of a sheet of it; without SHEET, the audit checks the reference's own sheet. Both
-may be of any length.
+SESSION is message bytes, or text with --text; bytes that look like text are an error,
+and --bytes takes them as bytes. SHEET is the lines of a sheet of it; left out, the
+reference's own sheet is taken. Both are read as the audit goes, however long they are.
 
-The last line is the verdict, and the exit status is 0 only if it agrees:
+The last line is the verdict, and the exit status is 0 only where it agrees:
 
   agrees: 6 messages, 13 records
   does not agree: 2 of 6 messages differ; the sheet ends after message 4 of 6
 
-The audit checks each message by itself. It finds the answer (64) of a message by its
-number, so a line that is false, missing, doubled or moved hides no later line. For each
-message whose records differ it prints the first line that differs, what the rules say
-there, and why. It also prints answers that are missing or one too many, lines that are no
-records, and where the sheet ends or is cut. It prints up to 20 messages, or with --most
-up to N, and counts the rest; the same for orders and answers.
+Each message is held to the rules by itself. Answers (64) are brought to their messages by
+their numbers, so a line that is false, missing, doubled or moved hides none of those after
+it. Of each message whose records differ the first line that differs is told, with what the
+rules say there and why. So are answers that are missing or one too many, lines that are no
+records, and where the sheet ends or is cut. Up to 20 messages are told, or with --most
+up to N, and then they are counted; so are orders and answers.
 
-It checks each 66 by arithmetic alone: the 65s of its order before it have its quantity, by
-the ratios, in both series and on its sides, they come to its net, and its net is not above
-N. It prints the 65s of a complex order that have no 66.
+Each 66 is held to arithmetic of its own, whatever the comparison says: the 65s of its
+order before it have its quantity, by the ratios, in both series and on its sides, they come
+to its net, and its net is not above N. A complex order's 65s without a 66 are told.
 
-Before that it prints every complex order, once the order is gone or at the end: entered
-(from its message), paired, crossed, cancelled and contracts in each series (from the
-sheet), open (from the venue that the reference leaves), and whether these agree. Sums of
-an order of unequal ratios are in units, and its contracts in each series stand beside
-ratio x paired units. It lists orders with reserve, with what is left and what that shows,
-and the settings that the session entered. For each series it prints the number of legging
-orders and the most in 256 consecutive messages, and each line that brings more than 20.
+Before that every complex order is printed, once it is gone or at the end: entered (from its
+message), paired, crossed, cancelled and contracts in each series (from the sheet), open
+(from the venue that the reference leaves). Each order whose sums do not agree is told.
+Sums of an order of unequal ratios are in units, and its contracts in each series are
+listed beside ratio x paired units. Orders that were to show a part of them are listed
+with what is left and what that shows. The settings that the session entered are listed.
+Of each series the legging orders are counted, and the most of them in 256 consecutive
+messages; the lines that bring more than 20 are told.
 
-The audit also replays the sheet: it keeps the books record by record and checks each trade
-and cross against the books just before it. It prints, with the best price passed over,
+The sheet is also replayed: the books are kept record by record, and each trade and cross is
+looked at upon the books just before it. It is told, with the best of what it passed over,
 where
 
   - a trade takes a side of a series while a strictly better price is shown there, or a
@@ -64,11 +64,11 @@ where
   - in a cross a party's net is above what the best regular prices of both its legs
     would give it, where both have one.
 
-It also prints records of orders that the books do not have, and messages after which the
-books differ from the reference's; the replay then goes on from the reference's books.
+Told too are records of what the books do not have, and messages after which they are not
+those of the reference, from whose books the replay then goes on.
 
-With --json each of these is an object on a line: venue help json. If standard error is a
-terminal, it shows how many messages were done.
+With --json each of these is an object on a line: venue help json. Where standard error is
+a terminal, it shows how many messages were done.
 ";
 
 fn audit_sheet(arguments: &Arguments, out: &mut Out) -> Outcome {
@@ -110,7 +110,7 @@ fn audit_sheet(arguments: &Arguments, out: &mut Out) -> Outcome {
     teller.end(out)
 }
 
-/// Writes what an audit reports: as lines, the disagreements last, or as objects.
+/// Writes what an audit tells: as lines, the disagreements last, or as objects.
 struct Teller {
     auditor: Auditor<BufReader<Reader>>,
     is_json: bool,
@@ -133,7 +133,7 @@ impl Teller {
         }
     }
 
-    /// Writes what the audit has reported since the last call.
+    /// What was told since.
     fn tell(&mut self, out: &mut Out) -> Outcome {
         for told in self.auditor.told() {
             match told {

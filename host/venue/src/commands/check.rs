@@ -23,16 +23,16 @@ pub static COMMAND: Command = Command {
 };
 
 const HELP: &str = "\
-Runs random sessions of all profiles, or of one, with every check after every message,
-from seed N (default 0) on, until M messages (default 100000) or K sessions are done:
-the reference beside the plain model. If standard error is a terminal, one line there
-shows the progress. At the end it prints the coverage. For a violation it prints the
-profile and seed that repeat it:
+Random sessions over all profiles, or one, with every check after every message,
+from seed N (default 0) on, until M messages (default 100000) or K sessions were
+done: the reference and the plain model are driven side by side. How far it is
+stands in one line on standard error, where that is a terminal; the coverage is
+printed at the end. A violation is named with the profile and seed that repeat it:
 
   venue check --profile P --seed N --sessions 1
 
-With --complete it is an error if some record, cause, refusal or rare case did not
-occur.
+With --complete it is an error if some record, cause, refusal or rare case was
+not shown.
 ";
 
 fn check(arguments: &Arguments, out: &mut Out) -> Outcome {
@@ -60,7 +60,7 @@ fn check(arguments: &Arguments, out: &mut Out) -> Outcome {
     write!(out, "{coverage}")?;
     let missing = coverage.missing();
     if arguments.has("--complete") && !missing.is_empty() {
-        let what = format!("did not occur: {}", missing.join("; "));
+        let what = format!("not shown: {}", missing.join("; "));
         return Err(Failure::Disagreement(what));
     }
     Ok(())

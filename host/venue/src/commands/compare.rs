@@ -19,15 +19,16 @@ pub static COMMAND: Command = Command {
 };
 
 const HELP: &str = "\
-Runs the session by the engine's archive and by the reference, and compares them: the run
-of the whole session, with report memory that just fits and with more; each message by a
-one-message call on the venue that the last call left; and the sheets of both. It compares
-the numbers, every byte of the reports and of the venues, and the bytes around them. It
-prints the first difference, and the exit status is 1. Bytes that look like text are an
-error; --bytes takes them as bytes.
+Takes the session by the engine's archive and by the reference, and compares them: the run
+of all of it, with report memory that just fits and with more; each message by a one-message
+call upon the venue that the last one left; and the sheets of both. Compared are the
+numbers, every byte of the reports and of the venues, and the bytes around them. The first
+difference is told, and the exit status is 1. Bytes that look like text are an error;
+--bytes takes them as bytes.
 
-This tool links no archive: it starts the program compare from its own folder. bin/venue
-compare builds that program, and first proves the engine if it is not proved yet.
+This tool links no archive: the program compare does it, which is started from the folder
+that this tool stands in. bin/venue compare builds it, and proves the engine before that
+where it is not proved yet.
 ";
 
 /// How the program is built, from the top of the repository.

@@ -22,9 +22,9 @@ pub static COMMAND: Command = Command {
 };
 
 const HELP: &str = "\
-Prints for each message what happened and, for each leg for which no legging order
-was made, the first condition of generation that failed. For a removal by a settling it
-prints the figures of the state that was tested:
+Tells for each message what happened and, for each leg for which no legging order
+was made, the first condition of generation that failed. A removal by a settling is told
+with its figures, as they were in the state that was tested:
 
   cause 1  the displayed price and the best regular price of its side
   cause 5  N, O and the highest net in band, or the side whose market best is missing
@@ -32,25 +32,26 @@ prints the figures of the state that was tested:
            hides it; the net and N; the size and the quantity
   cause 6  the series that are not open
 
-For refusal 4 it prints the field, its value and its range. Where a band, an increment or
-refusal 4 depends on a setting, it prints the edition and the message that entered it;
-edition 0 are the figures of document 01. For an order with reserve it prints whether a
-trade took what it shows or its reserve, and what it shows after the trades. Quantities of
-an order of unequal ratios are units, with their contracts; it also prints which side could
-not fill a further unit. For a limited sweep it names the orders that it looks at.
+Refusal 4 is told with the field, its value and its range. Where a band, an increment
+or refusal 4 depends on a setting, its edition is told with the message that entered
+it; edition 0 are the figures of document 01. Of an order with reserve it is told
+whether a trade took what it shows or its reserve, and what it shows after the trades.
+Quantities of an order of unequal ratios are units, told with their contracts, and so is
+which side could not fill a further unit. Of a limited sweep the orders that it looks at
+are named.
 
-With --from and --to it prints only messages N to M; it does and checks those before. With
---order it prints only what touched that order: its own messages, and each line that names
-it. After each message that changes the answer, it prints why each of the order's legs has
-no legging order: the first condition of generation that fails then, or that a sweep would
+With --from and --to only messages N to M are told; those before are done and checked. With
+--order only what touched that order is told: its own messages, and each line that names
+it. After each message where that changes it is told, of each of its legs, why it has no
+legging order: the first condition of generation that fails then, or that a sweep would
 make one.
 
-With --json each message is an object on a line: venue help json. The session may be of
-any length. Every check runs too; a violation ends the output with an error. Bytes that
-look like text are an error; --bytes takes them as bytes.
+With --json each message is an object on a line: venue help json. The session is read as
+it is told, however long it is. Every check is made meanwhile; a violation ends it with
+an error. Bytes that look like text are an error; --bytes takes them as bytes.
 ";
 
-/// Which messages are explained, and of which order.
+/// Which messages are told, and of which order.
 struct Asked {
     from: u64,
     to: u64,
@@ -125,7 +126,7 @@ fn explain_session(arguments: &Arguments, out: &mut Out) -> Outcome {
     match followed {
         Some(followed) if !followed.was_touched => {
             let id = asked.order.unwrap_or_default();
-            Err(input.fault(format!("no message printed touches order {id}")))
+            Err(input.fault(format!("no message that is told touches order {id}")))
         }
         _ => Ok(()),
     }

@@ -25,20 +25,20 @@ const HELP: &str = "\
 Runs the messages that come over a main and a spare line, from a fresh venue, with
 report memory that never fills, and prints the sheet. MAIN and SPARE are lines of
 bytes, or of text with --text; one of them may be -. Bytes that look like text are an
-error; --bytes takes them as bytes. Standard error has how many messages each line
+error; --bytes takes them as bytes. Standard error tells how many messages each line
 served and what stopped them:
 
   0   neither line has more
   19  both lines have the number, but their bytes differ
-  20  neither line has the number, but a line has a later one
+  20  neither line has the number, though a later one stands on either
   21  a line is torn, does not rise or has a length below 4 or number 0: nothing
-      is done, and standard error has the byte of each line's first fault
+      is done, and the byte of each line's first fault is told
 
 With 19 to 21 the exit status is 1.
 ";
 
-/// The sheet of what two lines hand out; standard error says who served it and what
-/// stopped it.
+/// The sheet of what two lines hand out; who served it and what stopped it is told
+/// beside it.
 fn feed(arguments: &Arguments, out: &mut Out) -> Outcome {
     let form = arguments.form()?;
     let lines = arguments.two_inputs("MAIN and SPARE")?;

@@ -23,7 +23,7 @@ pub static COMMAND: Command = Command {
 fn help() -> String {
     format!(
         "\
-Plays arrivals and turns on four fresh venues behind one line, and prints the sheet
+Plays arrivals and turns upon four fresh venues behind one line, and prints the sheet
 of each venue under its number. The script is text, one call a line:
 
   arrive VENUE MESSAGE      MESSAGE as in a session's text, or nothing: no bytes
@@ -31,16 +31,16 @@ of each venue under its number. The script is text, one call a line:
   turns COUNT               so many turns, up to 255
 
 A venue's wait holds up to 8 messages of up to 32 bytes. A turn does the message at the
-head of the next venue's wait, going round from venue 0. Report memory is {ENOUGH} bytes,
-enough for any message, unless the turn has another length. Standard error has the
+head of the next venue's wait, going round from venue 0. Report memory is {ENOUGH} bytes
+where no other length is said: enough for any message. Standard error tells the
 arrivals that were refused (17 or 18), the turns that served no venue (0 or 10), and
 what still waits at the end.
 "
     )
 }
 
-/// The sheets of four venues behind one line; standard error names calls that did nothing and
-/// messages that still wait.
+/// The sheets of four venues behind one line; calls that did nothing and messages that
+/// still wait are told beside them.
 fn four(arguments: &Arguments, out: &mut Out) -> Outcome {
     let input = arguments.input(0);
     let script = parse_script(&input.text()?).map_err(|error| input.fault(error))?;

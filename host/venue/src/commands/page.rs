@@ -32,22 +32,22 @@ Writes one HTML file that shows the session message by message in a browser:
 
   venue page --text session.txt > session.html
 
-The page needs no network. It has what explain prints for each message, the books after
-it, the conditions of each leg of the complex book, the sheet and the sums of every complex
-order. Press ? on the page for its keys. An address that ends with #6 opens message 6, one
-with #6:3 also follows order 3.
+It needs nothing from outside, and holds every figure that it shows: what explain tells of
+each message, the books after it, the conditions of each leg of the complex book, the sheet
+and the sums of every complex order. The page's own ? tells its keys. An address that ends
+with #6 opens message 6, one with #6:3 also follows order 3.
 
 SESSION is message bytes, or text with --text, whose comments are shown too; bytes that look
-like text are an error, and --bytes takes them as bytes. With --sheet the page
-shows the lines of SHEET beside what the rules say at each message where they differ, and
-the sums are those of SHEET. --from and --to show a part of a long session: a page of 1,000 busy messages has
+like text are an error, and --bytes takes them as bytes. With --sheet the lines of SHEET
+stand beside what the rules say at each message where they differ, and the sums are those of
+SHEET. --from and --to show a part of a long session: a page of 1,000 busy messages has
 about a megabyte.
 ";
 
 /// The page without its name and its data.
 const TEMPLATE: &str = include_str!("page.html");
 
-/// How large a page may be before a line names its size.
+/// How large a page may be before its size is told.
 const LARGE: usize = 20_000_000;
 
 fn write_page(arguments: &Arguments, out: &mut Out) -> Outcome {

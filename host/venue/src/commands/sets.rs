@@ -1,9 +1,10 @@
 //! `venue set` and `venue resume`: a session carried over an upgrade.
 
+use super::sheet::print_run;
 use super::Command;
 use crate::arguments::{usage, Arguments};
 use crate::help::SET_FORM;
-use crate::input::{Input, Reader};
+use crate::input::Input;
 use crate::output::{tell, Out};
 use crate::printed::Printed;
 use crate::{Failure, Outcome};
@@ -14,8 +15,8 @@ use sessions::message::split;
 use sessions::set::{decode_set, encode_set, line_at};
 use sessions::set_generator::set_of;
 use sessions::set_reader::{first_unsound, look_at, Refused};
-use sessions::sheet::{run_whole, Running, MOST_LIST};
-use sessions::stream::{Form, Messages};
+use sessions::sheet::{run_whole, Running};
+use sessions::stream::Form;
 use std::io::Write;
 use std::path::Path;
 
@@ -47,13 +48,13 @@ venue left and of the number of its last message: the records that legging_write
 writes. SESSION is message bytes and the set is bytes; with --text both are text.
 Bytes that look like text are an error; --bytes takes them as bytes.
 
-With --output FILE it writes the set to FILE, whole or not at all: it writes and syncs
-FILE.new, renames it, and writes the length and the SHA-256 to FILE.sha256. A crash leaves
-the old FILE or the new one. Without --output it writes to standard output.
+With --output FILE the set goes to FILE, whole or not at all: it is written to FILE.new,
+which is synced and renamed, and its length and SHA-256 to FILE.sha256. A crash leaves the
+old FILE or the new one. Without it the set goes to standard output.
 
-At the upgrade the host stops between two messages and writes its set to a file, and the
-new engine reads the file. To see what the set has, that it is whole, and that it is what
-the morning came to:
+At the upgrade the host stops between two messages, writes its set to a file, and the
+new engine reads it. To see what it carries, that it is whole, and that it is what the
+morning came to:
 
   venue decode --set noon.set
   sha256sum -c noon.set.sha256
@@ -61,22 +62,22 @@ the morning came to:
 ";
 
 const RESUME_HELP: &str = "\
-Goes on with the session's messages on the venue of a set, and prints the sheet: the
-records and message numbers that a session without the cut would have from there on. SET
+Goes on with the session's messages upon the venue of a set, and prints the sheet: the
+records that a session not cut would have from there on, its message numbers too. SET
 and SESSION are bytes, or text with --text; one of them may be -. Bytes that look like
-text are an error; --bytes takes them as bytes. The set may be a short set. With an empty
-session it only checks that the set can be read.
+text are an error; --bytes takes them as bytes. The set may be a short
+one. With an empty session it says whether the set is read.
 
-SET.sha256, which `venue set --output` and the hosts write, has the length and the checksum
-of SET: a set that differs, or has no such file beside it, is an error. With --unchecked
-it does not look at SET.sha256. It refuses the set with
+SET.sha256, which `venue set --output` and the hosts write, is asked for the length and
+the checksum of SET: a set that differs, or has no such file beside it, is an error. With
+--unchecked it is taken as it is. It is refused with
 
-  16  if a record is torn, missing, out of order, one too many, or of a kind or
-      length that a set does not have
-  9   if its venue is unsound, or a message number in it is above its own
+  16  where a record is torn, missing, out of order, one too many, or of a kind or
+      length that the set has not
+  9   where its venue is unsound, or a message number in it is above its own
 
-and prints which record is wrong and where it is (with --text its line), or what is
-unsound. Then the exit status is 1.
+and it is told which record is no set's and where it stands (with --text its line), or
+what is unsound. Then the exit status is 1.
 ";
 
 /// The set of the venue that a session leaves, or its first messages.
@@ -140,7 +141,7 @@ fn carried_by(set: &[u8]) -> Result<(Venue, u32), Refused> {
     }
 }
 
-/// Checks by the file beside a set's that these are the bytes that were written.
+/// Asks the file beside a set's whether these are the bytes that were written.
 fn ask_checksum(input: Input, bytes: &[u8]) -> Outcome {
     let asked = match input.path() {
         Some(file) => verify(file, bytes),
@@ -149,7 +150,7 @@ fn ask_checksum(input: Input, bytes: &[u8]) -> Outcome {
     asked.map_err(|what| input.fault(format!("{what}; --unchecked takes it as it is")))
 }
 
-/// Reads a set. An error in a text of one names its line.
+/// Reads a set. What is wrong with a text of one is told with its line.
 fn read_set(input: Input, form: Form, unchecked: bool) -> Result<(Venue, u32), Failure> {
     let bytes = input.whole()?;
     if !unchecked {
@@ -177,31 +178,5 @@ fn resume(arguments: &Arguments, out: &mut Out) -> Outcome {
     let (venue, number) = read_set(set, form, arguments.has("--unchecked"))?;
     let mut messages = session.messages(form)?;
     let running = Running::upon(venue, number);
-    print_rest(running, &mut messages, session, out)
-}
-
-/// Prints the records of the messages as they are read, list by list: each list is one run
-/// on the venue that the last one left.
-fn print_rest(
-    mut running: Running,
-    messages: &mut Messages<Reader>,
-    input: Input,
-    out: &mut Out,
-) -> Outcome {
-    let mut printed = Printed::Lines;
-    loop {
-        let (list, read) = messages.next_list(MOST_LIST);
-        let (records, are_done) = running.take_list(&list).map_err(|what| input.fault(what))?;
-        for record in records {
-            printed.print(record, out)?;
-        }
-        if !are_done {
-            let what = format!("{}: the message numbers are used up", input.name());
-            return Err(Failure::Disagreement(what));
-        }
-        read.map_err(|what| input.fault(what))?;
-        if list.is_empty() {
-            return Ok(());
-        }
-    }
+    print_run(running, &mut messages, session, Printed::Lines, out)
 }

@@ -21,7 +21,7 @@ pub static COMMAND: Command = Command {
 };
 
 const HELP: &str = "\
-Prints what held at message NUMBER of the session: the increment of each series and
+Tells what held at message NUMBER of the session: the increment of each series and
 the percentage of the band, each with its edition and the message that entered it.
 A setting holds from its own message on; before the first, edition 0 holds.
 Bytes that look like text are an error; --bytes takes them as bytes.
@@ -43,7 +43,7 @@ fn settings(arguments: &Arguments, out: &mut Out) -> Outcome {
         let what = format!("{}: the session has {done}", input.name());
         tell(
             &arguments.name(),
-            &format!("{what}; these are the settings that it leaves"),
+            &format!("{what}; told is what it leaves"),
         );
     }
     let in_force = InForce::at(&returned.venue, asked);

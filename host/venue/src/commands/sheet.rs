@@ -23,16 +23,17 @@ pub static COMMAND: Command = Command {
 const HELP: &str = "\
 Runs the session from a fresh venue, with report memory that never fills, and prints a
 line for each record: its kind, then its fields in table order, blank between. The
-session may be of any length.
+session may be of any length: it is read as the lines are printed.
 
-With --first it runs only so many bytes of the messages. The proved program reads 65,536
-bytes, so --first 65536 gives what bin/sheet prints: a message that is cut there is torn,
+With --first only so many bytes of its messages are run. The proved program reads 65,536
+of them, so --first 65536 gives what bin/sheet prints: a message that is cut there is torn,
 and its answer is the last.
 
 With --json each record is an object on a line, with --csv a line of values between commas;
-both have the number of the record's message: venue help json.
+with both the number of its message is told: venue help json.
 
-Text needs --text. Bytes that are all printable are an error; --bytes takes them as bytes.
+Bytes are never taken for text: text needs --text. Bytes that are all printable, as those
+of a text are, are an error; --bytes takes them as bytes.
 ";
 
 fn sheet(arguments: &Arguments, out: &mut Out) -> Outcome {
@@ -50,7 +51,7 @@ fn sheet(arguments: &Arguments, out: &mut Out) -> Outcome {
 }
 
 /// Prints the records of a run's messages as they are read.
-fn print_run(
+pub fn print_run(
     mut running: Running,
     messages: &mut Messages<Reader>,
     input: Input,

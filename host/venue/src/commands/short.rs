@@ -22,7 +22,7 @@ const HELP: &str = "\
 Prints every session of 0 to 3 messages from a list of up to 12, shorter first, then by
 the messages' places in the list, repeats allowed: the places of its messages, from 1,
 blank between, on one line, then the lines of its run. The empty session is an empty
-line. LIST is text, one message a line; - reads standard input. Without LIST it is the fixed
+line. LIST is text, one message a line; - reads standard input. Left out, it is the fixed
 list of document 02 (n): the printed session's six messages, cancel 3, sweep, kind 11 with
 n 1, away 0 0 115, close 0, close 1. bin/short prints the same by the proved program.
 ";

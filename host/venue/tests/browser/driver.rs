@@ -37,7 +37,7 @@ pub struct Browser {
     complaints: Vec<String>,
 }
 
-/// What the browser reports of errors.
+/// What the browser tells of errors.
 const COMPLAINTS: [&str; 3] = [
     "Runtime.exceptionThrown",
     "Runtime.consoleAPICalled",
@@ -85,12 +85,12 @@ impl Browser {
         browser
     }
 
-    /// Errors that the pages or the browser reported.
+    /// Errors that the pages or the browser told.
     pub fn complaints(&self) -> Vec<String> {
         self.complaints.clone()
     }
 
-    /// Sends a command; returns the answer.
+    /// Sends a command; tells the answer.
     fn call(&mut self, method: &str, parameters: &str) -> String {
         self.sent += 1;
         let session = match self.tab.as_str() {
@@ -127,7 +127,7 @@ impl Browser {
     /// Opens a file, and waits until its script has drawn.
     pub fn open(&mut self, file: &str) {
         let url = format!("{{\"url\":\"file://{file}\"}}");
-        // Another address of the same page does not load it again.
+        // Another address of the same page does not load it anew.
         self.call("Page.navigate", "{\"url\":\"about:blank\"}");
         self.call("Page.navigate", &url);
         let began = Instant::now();

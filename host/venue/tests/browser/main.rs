@@ -22,14 +22,14 @@ impl Folder {
         Folder(path)
     }
 
-    /// Writes a file; returns its path.
+    /// Writes a file; tells its path.
     fn write(&self, name: &str, contents: &[u8]) -> String {
         let path = self.0.join(name);
         std::fs::write(&path, contents).unwrap();
         path.to_str().unwrap().to_string()
     }
 
-    /// Writes the page of a session given as text; returns its path.
+    /// Writes the page of a session given as text; tells its path.
     fn page(&self, name: &str, session: &[u8], more: &[&str]) -> String {
         let arguments = [&["page"][..], more, &["-"]].concat();
         let page = venue(&arguments, session);
@@ -77,7 +77,7 @@ fn pages_are_walked_searched_and_followed() {
     assert_eq!(browser.complaints(), Vec::<String>::new());
 }
 
-/// The message shown, as the page names it.
+/// The message shown, as the page tells it.
 fn position(browser: &mut Browser) -> String {
     browser.text("#pos")
 }

@@ -62,7 +62,7 @@ fn one_order_is_told_alone() {
     assert_eq!(out, "");
     assert_eq!(
         errors,
-        "venue explain: standard input: no message printed touches order 9\n"
+        "venue explain: standard input: no message that is told touches order 9\n"
     );
 }
 

@@ -334,7 +334,7 @@ fn an_audit_ends_with_its_verdict() {
     assert_eq!(*get(&verdict, "agrees"), Json::Flag(true));
 }
 
-/// The help has every name that is written.
+/// Every name that is written is told in the help.
 #[test]
 fn the_help_tells_every_name() {
     let help = good(&["help", "json"], b"");

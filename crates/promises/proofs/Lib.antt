@@ -1,2 +1,0 @@
--- Every theorem that the engine promises, in one file.
-pub mod Main

@@ -1,1 +1,0 @@
-// Every theorem that the engine promises, in one file: proofs/Main.antt.

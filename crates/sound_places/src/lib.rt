@@ -1,0 +1,339 @@
+// Whether each place of a venue that is held by value is sound by itself.
+ghost use Rattle.std.specs.Prelude.{◌≡◌, ◌<◌, ◌&&◌, leb, drop};
+ghost use Rattle.rules.specs.Base.{all};
+ghost use Rattle.rules.specs.Places.{blank_regular, blank_complex, blank_edition};
+ghost use Rattle.rules.specs.Sound.{listed_in_range, edition_in_range};
+ghost use Rattle.sound_places.specs.Checked.{asked_regular, regulars_from, complexes_from, editions_from, numbers_from, numbers_sound, kept_sound, places_sound};
+
+use rules::{Complex, Edition, Generations, Listed, Regular, Venue};
+
+// Places by themselves ------------------------------------------------------------------------
+
+// A regular place that is all zero.
+fn blank_regular(o: Regular) -> bool
+    ensures { result ≡ blank_regular o }
+{
+    if o.id != 0 {
+        return false;
+    }
+    if o.series != 0 {
+        return false;
+    }
+    if o.side != 0 {
+        return false;
+    }
+    if o.price != 0 {
+        return false;
+    }
+    if o.quantity != 0 {
+        return false;
+    }
+    if o.display != 0 {
+        return false;
+    }
+    o.reserve == 0
+}
+
+// All places from one on are zero.
+fn regulars_blank(l: [Regular; 128], from: usize) -> bool
+    ensures { result ≡ all blank_regular (drop from l) }
+{
+    let mut i = from;
+    while i < 128 {
+        let o = l[i];
+        if !blank_regular(o) {
+            return false;
+        }
+        i += 1;
+    }
+    true
+}
+
+// A held place is in range, its order shows what it should, and its id is at most the last.
+fn regular_asked(o: Regular, last: u32) -> bool
+    ensures { result ≡ asked_regular last o }
+{
+    if !wire::regular_in_range(o) {
+        return false;
+    }
+    if o.reserve != o.quantity - o.display {
+        return false;
+    }
+    o.id <= last
+}
+
+// Held places come first, each as asked and in rising id; then places that are all zero.
+fn regulars_sound(l: [Regular; 128], last: u32) -> bool
+    ensures { result ≡ regulars_from last 0 l }
+{
+    let mut low: u32 = 0;
+    let mut i: usize = 0;
+    while i < 128 {
+        let o = l[i];
+        if o.quantity == 0 {
+            return regulars_blank(l, i);
+        }
+        if o.id <= low {
+            return false;
+        }
+        if !regular_asked(o, last) {
+            return false;
+        }
+        low = o.id;
+        i += 1;
+    }
+    true
+}
+
+// A complex place that is all zero.
+fn blank_complex(c: Complex) -> bool
+    ensures { result ≡ blank_complex c }
+{
+    if c.id != 0 {
+        return false;
+    }
+    if c.series1 != 0 {
+        return false;
+    }
+    if c.side1 != 0 {
+        return false;
+    }
+    if c.series2 != 0 {
+        return false;
+    }
+    if c.side2 != 0 {
+        return false;
+    }
+    if c.class != 0 {
+        return false;
+    }
+    let limit = c.limit;
+    if limit < 0 {
+        return false;
+    }
+    if 0 < limit {
+        return false;
+    }
+    if c.quantity != 0 {
+        return false;
+    }
+    if c.ratio1 != 0 {
+        return false;
+    }
+    c.ratio2 == 0
+}
+
+// Every complex place from one on is blank.
+fn complexes_blank(l: [Complex; 32], from: usize) -> bool
+    ensures { result ≡ all blank_complex (drop from l) }
+{
+    let mut i = from;
+    while i < 32 {
+        let c = l[i];
+        if !blank_complex(c) {
+            return false;
+        }
+        i += 1;
+    }
+    true
+}
+
+// The complex places are sound: ids rise, fields are in their ranges, and free places are blank and last.
+fn complexes_sound(l: [Complex; 32], last: u32) -> bool
+    ensures { result ≡ complexes_from last 0 l }
+{
+    let mut low: u32 = 0;
+    let mut i: usize = 0;
+    while i < 32 {
+        let c = l[i];
+        if c.quantity == 0 {
+            return complexes_blank(l, i);
+        }
+        if c.id <= low {
+            return false;
+        }
+        if !wire::complex_in_range(c) {
+            return false;
+        }
+        if last < c.id {
+            return false;
+        }
+        low = c.id;
+        i += 1;
+    }
+    true
+}
+
+// A series' fields are in range.
+fn listed_in_range(x: Listed) -> bool
+    ensures { result ≡ listed_in_range x }
+{
+    if 2 < x.status {
+        return false;
+    }
+    if 100000 < x.bid {
+        return false;
+    }
+    x.offer <= 100000
+}
+
+// Every series' status and away prices are in their ranges.
+fn series_sound(l: [Listed; 8]) -> bool
+    ensures { result ≡ all listed_in_range l }
+{
+    let mut i: usize = 0;
+    while i < 8 {
+        let x = l[i];
+        if !listed_in_range(x) {
+            return false;
+        }
+        i += 1;
+    }
+    true
+}
+
+// An edition place that is all zero.
+fn blank_edition(e: Edition) -> bool
+    ensures { result ≡ blank_edition e }
+{
+    if e.edition != 0 {
+        return false;
+    }
+    if e.message != 0 {
+        return false;
+    }
+    if e.figure != 0 {
+        return false;
+    }
+    e.value == 0
+}
+
+// Every place of the editions from one on is blank.
+fn editions_blank(l: [Edition; 32], from: usize) -> bool
+    ensures { result ≡ all blank_edition (drop from l) }
+{
+    let mut i = from;
+    while i < 32 {
+        let e = l[i];
+        if !blank_edition(e) {
+            return false;
+        }
+        i += 1;
+    }
+    true
+}
+
+// A held edition sets an increment or the percent, to a value in its range; any u32 is an edition, and a message's number.
+fn edition_in_range(e: Edition) -> bool
+    ensures { result ≡ edition_in_range e }
+{
+    if e.figure <= 7 {
+        return arithmetic::is_increment(e.value);
+    }
+    if e.figure != 8 {
+        return false;
+    }
+    e.value <= 50
+}
+
+// Held places come first, in range, and rise in both numbers; then places that are all zero.
+fn editions_sound(l: [Edition; 32]) -> bool
+    ensures { result ≡ editions_from 0 0 l }
+{
+    let mut low: u32 = 0;
+    let mut past: u32 = 0;
+    let mut i: usize = 0;
+    while i < 32 {
+        let e = l[i];
+        if e.edition == 0 {
+            return editions_blank(l, i);
+        }
+        if e.edition <= low {
+            return false;
+        }
+        if e.message <= past {
+            return false;
+        }
+        if !edition_in_range(e) {
+            return false;
+        }
+        low = e.edition;
+        past = e.message;
+        i += 1;
+    }
+    true
+}
+
+// A generation's number is not below the one before it; any u32 is a message's number.
+fn is_unfallen(low: u32, n: u32) -> bool
+    ensures { result ≡ (leb low n && leb n 4294967295) }
+{
+    low <= n
+}
+
+// A series' generations do not fall in number.
+fn numbers_sound(l: [u32; 20]) -> bool
+    ensures { result ≡ numbers_from 0 l }
+{
+    let mut low: u32 = 0;
+    let mut i: usize = 0;
+    while i < 20 {
+        let n = l[i];
+        if !is_unfallen(low, n) {
+            return false;
+        }
+        low = n;
+        i += 1;
+    }
+    true
+}
+
+// Every series' generations are sound.
+fn generations_sound(l: [Generations; 8]) -> bool
+    ensures { result ≡ all numbers_sound l }
+{
+    let mut i: usize = 0;
+    while i < 8 {
+        let g = l[i];
+        let messages = g.messages;
+        if !numbers_sound(messages) {
+            return false;
+        }
+        i += 1;
+    }
+    true
+}
+
+// What is kept beside the orders and the series: editions, generations, and the id that limited sweeps have reached.
+fn kept_sound(v: Venue) -> bool
+    ensures { result ≡ kept_sound v }
+{
+    let editions = v.editions;
+    if !editions_sound(editions) {
+        return false;
+    }
+    let generations = v.generations;
+    if !generations_sound(generations) {
+        return false;
+    }
+    v.reached <= v.last
+}
+
+// Every place by itself is sound but for the increments, and books, editions and generations are arranged.
+pub fn places_sound(v: Venue) -> bool
+    ensures { result ≡ places_sound v }
+{
+    let regular = v.regular;
+    if !regulars_sound(regular, v.last) {
+        return false;
+    }
+    let complex = v.complex;
+    if !complexes_sound(complex, v.last) {
+        return false;
+    }
+    let series = v.series;
+    if !series_sound(series) {
+        return false;
+    }
+    kept_sound(v)
+}

@@ -1,0 +1,436 @@
+-- Loading a venue: its books row by row to the first free place, its other parts place by place.
+use mathlib.Core.Path.{◌≡◌, refl, sym, ap, subst, ◌∙◌}
+use mathlib.Core.Bool.{Bool, true, false, ◌&&◌, true≢false}
+use mathlib.Core.Logic.{◌⊎◌, inl, inr}
+use mathlib.Core.List.{List, [], ◌∷◌, ◌++◌}
+use Prim.Native.Nat.{ℕ, ◌+◌, ◌*◌, ◌≤◌, ◌<◌}
+use native.Mathlib.Omega.{arith}
+use native.Mathlib.Decide.{dec_lt}
+use native.Mathlib.Numerals.{add-one}
+use borrow.Author.Tests.{leb-true}
+use lib.Dec.{leb}
+use lib.ListN.{length, get_or, set, take, length-set, get_or-eq_default}
+use lib.Seq.{sets, get_or-set_same, ext_get_or, take-suc, take-suc-set, take_all}
+use Rattle.rules.specs.declared.Regular.{Regular}
+use Rattle.rules.specs.declared.Complex.{Complex}
+use Rattle.rules.specs.declared.Legging.{Legging}
+use Rattle.rules.specs.declared.Listed.{Listed}
+use Rattle.rules.specs.declared.Edition.{Edition}
+use Rattle.rules.specs.declared.Venue.{Venue}
+use Rattle.rules.specs.Words.{no_regular, no_complex, no_legging, not_listed, no_edition, with_regular, with_complex, with_legging, with_series, with_editions}
+use Rattle.rules.specs.Words.{with_generations, with_last, with_reached, is_series, is_side, within}
+use Rattle.rules.specs.Places.{holds_regular, holds_complex, holds_edition, blank_regular, blank_complex, blank_edition, packed, close_gaps}
+use Rattle.rules.specs.Step.{mask}
+use Rattle.rules.specs.Settings.{figure_now, increment}
+use Rattle.rules.specs.Refusals.{regular_in_range, two_leg_in_range, complex_in_range, on_increment}
+use Rattle.rules.specs.Sound.{shows_fully, regulars_sound, complexes_sound, editions_sound, edition_in_range, sound}
+use Rattle.rules.proofs.Tests.{and_l, and_r}
+use Rattle.rules.proofs.Editions.{Dated, Stepped, dated-steps}
+use Rattle.rules.proofs.Dating.{edition-free}
+use Rattle.rules.proofs.Closing.{packed-free}
+use Rattle.rules.proofs.Arranging.{arranged-out, blank-free, blank-free_c, closed_same}
+use Rattle.places.proofs.Orderly.{sound-orderly}
+use Rattle.places.proofs.Fully.{range-bounded, sound-fully}
+use Rattle.places.specs.Layout.{size, in_use, regular_in, complex_in, listed_in, edition_in, venue_of, regular_put, Bounded, edition_row, Fully, Figured}
+use Rattle.places.specs.Layout.{FiguresCounted, ComplexBounded, SameCounts, Filled, Placed, OnSide, RegularsPlaced, ComplexesPlaced, Loadable, RegularsLoaded}
+use Rattle.places.specs.Layout.{ComplexesLoaded, EditionsLoaded, BesideCounted, Laid}
+use Rattle.places.specs.Offsets.{regulars_used_at, complexes_used_at, regulars_known_at, complexes_known_at, legging_mask_at, edition_number_at, figures_at, regular_reserve_at, show_again_at, generation_messages_at}
+use Rattle.places.proofs.Tables.{upto-length, used-length, used-at, used-free, whole}
+use Rattle.places.proofs.Parts.{Outside, OutsideRows, halves, stored, wider, edition-kept, count_kept, count-kept2, regulars-kept, complexes-kept}
+use Rattle.places.proofs.Parts.{leggings-kept, series-kept, generations-kept, last-kept, reached-kept, venue-is}
+use Rattle.places.proofs.Masks.{legging-many}
+use Rattle.places.proofs.Beside.{figures-marked, beside-venue}
+use Rattle.place_writes.proofs.Figures.{counted-outside}
+use Rattle.place_writes.proofs.Stores.{regular-back, complex-back, edition-back}
+use Rattle.places.proofs.Free.{filled_more}
+use Rattle.place_writes.proofs.Gaps.{Rows, rows-between}
+use Rattle.place_writes.proofs.Closed.{regular-rows, complex_put, OutsideComplexes, complex-rows, regulars-set, complexes-set, regulars-filled, complexes-filled}
+
+-- Rows, to the first free place ----------------------------------------------------------------
+
+-- the first i rows are l's
+pub record Laying {A : Type 0} (holds : A → Bool) (none : A) (row_in : List ℕ → ℕ → A) (Same : (i j : ℕ) (a b : List ℕ) → Type 0) (a b : List ℕ) (l : List A) (i : ℕ) : Type 0 where
+  pub before : length a ≡ size
+  pub long : length b ≡ size
+  pub same : (k : ℕ) → k < i → row_in b k ≡ get_or l k none
+  pub full : Filled holds (row_in b) i
+  pub outside : Same 0 i a b
+
+module _ {A : Type 0} (holds : A → Bool) (none : A) (all : ℕ) (row_in : List ℕ → ℕ → A) (write : List ℕ → ℕ → A → List ℕ) (Same : (i j : ℕ) (a b : List ℕ) → Type 0)
+    (rows : Rows all row_in write Same) where
+  pub laying-first : (a : List ℕ) (l : List A) → length a ≡ size → Laying holds none row_in Same a a l 0
+  laying-first a l e = record {
+    before = e;
+    long = e;
+    same = λ k w. absurd (omega arith);
+    full = λ k w. absurd (omega arith);
+    outside = rows.none 0 0 a;
+  }
+
+  module _ (a b : List ℕ) (l : List A) (i : ℕ) (m : Laying holds none row_in Same a b l i) where
+    pub laying-next : i < all → holds (get_or l i none) ≡ true → row_in (write b i (get_or l i none)) i ≡ get_or l i none → Laying holds none row_in Same a (write b i (get_or l i none)) l (i + 1)
+    laying-next lt h new = record {
+      before = m.before;
+      long = rows.long b i (get_or l i none) ∙ m.long;
+      same = same;
+      full = filled_more holds (row_in b') i (λ k w. ap holds (sym (front k w)) ∙ m.full k w) (ap holds new ∙ h);
+      outside = rows.join 0 (i + 1) a b b' (rows.wide 0 i 0 (i + 1) a b (omega arith) (omega arith) m.outside)
+          (rows.wide i (i + 1) 0 (i + 1) b b' (omega arith) (omega arith) (rows.wrote b i (get_or l i none)));
+    }
+      where
+        b' : List ℕ
+        b' = write b i (get_or l i none)
+
+        front : (k : ℕ) → k < i → row_in b k ≡ row_in b' k
+        front k w = rows.agree b b' i (i + 1) k (omega arith) (omega arith) (rows.wrote b i (get_or l i none)) (inl w)
+
+        same : (k : ℕ) → k < i + 1 → row_in b' k ≡ get_or l k none
+        same k w = elim (dec_lt k i) [
+          | yes r ↦ sym (front k r) ∙ m.same k r
+          | no r ↦ (let e : k ≡ i = omega arith in ap (row_in b') e ∙ new ∙ sym (ap (λ (x : ℕ). get_or l x none) e))
+        ]
+
+    -- the rest is free
+    pub laid : length l ≡ all → i ≤ all → ((k : ℕ) → i ≤ k → get_or l k none ≡ none) → in_use (row_in b) none i all ≡ l
+    laid n few rest = ext_get_or none (in_use (row_in b) none i all) l (used-length (row_in b) none i all few ∙ sym n) (λ k w. elem k)
+      where
+        elem : (k : ℕ) → get_or (in_use (row_in b) none i all) k none ≡ get_or l k none
+        elem k = elim (dec_lt k i) [
+          | yes r ↦ used-at (row_in b) none i all k r ∙ m.same k r
+          | no r ↦ used-free (row_in b) none i all k (omega arith) ∙ sym (rest k (omega arith))
+        ]
+
+-- places after a free one are free
+pub free-after : {A : Type 0} (holds : A → Bool) (none : A) (Asked : A → Type 0) (l : List A) (i : ℕ) → Placed holds none Asked l → holds (get_or l i none) ≡ false →
+    (k : ℕ) → i ≤ k → get_or l k none ≡ none
+free-after holds none Asked l i p h k le = p.blank k (go (holds (get_or l k none)) refl)
+  where
+    go : (t : Bool) → holds (get_or l k none) ≡ t → holds (get_or l k none) ≡ false
+    go false e = e
+    go true e = elim (dec_lt i k) [
+      | yes r ↦ absurd (true≢false (sym (p.dense i k r e) ∙ h))
+      | no r ↦ (let z : k ≡ i = omega arith in ap (λ (x : ℕ). holds (get_or l x none)) z ∙ h)
+    ]
+
+-- and so are those past the end
+pub past_end : {A : Type 0} (none : A) (l : List A) (i : ℕ) → length l ≤ i → (k : ℕ) → i ≤ k → get_or l k none ≡ none
+past_end none l i h k le = get_or-eq_default l none {n = k} (omega arith)
+
+abbrev pub LayingRegulars : (a b : List ℕ) (l : List Regular) (i : ℕ) → Type 0
+LayingRegulars = Laying holds_regular no_regular regular_in OutsideRows
+
+pub regulars-first : (a : List ℕ) (l : List Regular) → length a ≡ size → LayingRegulars a a l 0
+regulars-first = laying-first holds_regular no_regular 128 regular_in regular_put OutsideRows regular-rows
+
+pub regulars-next : (a b b' : List ℕ) (l : List Regular) (i : ℕ) → RegularsPlaced l → LayingRegulars a b l i → i < 128 → (o : Regular) → o ≡ get_or l i no_regular →
+    holds_regular o ≡ true → b' ≡ regular_put b i o → LayingRegulars a b' l (i + 1)
+regulars-next a b b' l i p m lt o is h e =
+    let q = p.asked i (ap holds_regular (sym is) ∙ h) in
+    rw (e, is) (laying-next holds_regular no_regular 128 regular_in regular_put OutsideRows regular-rows a b l i m lt (ap holds_regular (sym is) ∙ h)
+    (regular-back b i (get_or l i no_regular) m.long lt q.0.series q.0.side q.1))
+
+pub regulars-last : (a b : List ℕ) (l : List Regular) (i : ℕ) → LayingRegulars a b l i → length l ≡ 128 → i ≤ 128 →
+    ((k : ℕ) → i ≤ k → get_or l k no_regular ≡ no_regular) → RegularsLoaded a l (set b regulars_used_at i)
+regulars-last a b l i m n few rest =
+    let s = regulars-set a b l i m.long few (halves a b m.before m.long 0 i few m.outside)
+    (laid holds_regular no_regular 128 regular_in regular_put OutsideRows regular-rows a b l i m n few rest) m.full in
+    record { venue = s.venue; complexes = s.complexes; filled = s.filled }
+
+abbrev pub LayingComplexes : (a b : List ℕ) (l : List Complex) (i : ℕ) → Type 0
+LayingComplexes = Laying holds_complex no_complex complex_in OutsideComplexes
+
+pub complexes-first : (a : List ℕ) (l : List Complex) → length a ≡ size → LayingComplexes a a l 0
+complexes-first = laying-first holds_complex no_complex 32 complex_in complex_put OutsideComplexes complex-rows
+
+pub complexes-next : (a b b' : List ℕ) (l : List Complex) (i : ℕ) → ComplexesPlaced l → LayingComplexes a b l i → i < 32 → (o : Complex) → o ≡ get_or l i no_complex →
+    holds_complex o ≡ true → ComplexBounded o → b' ≡ complex_put b i o → LayingComplexes a b' l (i + 1)
+complexes-next a b b' l i p m lt o is h kept e =
+    let q = p.asked i (ap holds_complex (sym is) ∙ h) in
+    rw (e, is) (laying-next holds_complex no_complex 32 complex_in complex_put OutsideComplexes complex-rows a b l i m lt (ap holds_complex (sym is) ∙ h)
+    (complex-back b i (get_or l i no_complex) m.long lt q.0.series q.0.side q.1.series q.1.side (rw is at kept)))
+
+pub complexes-last : (a b : List ℕ) (l : List Complex) (i : ℕ) → LayingComplexes a b l i → length l ≡ 32 → i ≤ 32 →
+    ((k : ℕ) → i ≤ k → get_or l k no_complex ≡ no_complex) → ComplexesLoaded a l (set b complexes_used_at i)
+complexes-last a b l i m n few rest =
+    let s = complexes-set a b l i m.long few (wider (omega arith) (omega arith) m.outside)
+    (laid holds_complex no_complex 32 complex_in complex_put OutsideComplexes complex-rows a b l i m n few rest) m.full in
+    record { venue = s.venue; regulars = s.regulars; filled = s.filled }
+
+-- Whole parts, place by place -----------------------------------------------------------------
+
+-- the first i places of one part are l's, and nothing else changed
+pub record Loading {A : Type 0} (With : Venue → List A → Venue) (part : Venue → List A) (a b : List ℕ) (l : List A) (i : ℕ) : Type 0 where
+  pub long : length b ≡ size
+  pub others : With (venue_of b) l ≡ With (venue_of a) l
+  pub front : take i (part (venue_of b)) ≡ take i l
+  pub counts : SameCounts a b
+
+module _ {A : Type 0} (With : Venue → List A → Venue) (part : Venue → List A) (none : A) (n : ℕ)
+    (again : (v : Venue) (x y : List A) → With (With v x) y ≡ With v y) (got : (v : Venue) (x : List A) → part (With v x) ≡ x)
+    (own : (v : Venue) → With v (part v) ≡ v) (many : (b : List ℕ) → length (part (venue_of b)) ≡ n) (a : List ℕ) (l : List A) where
+  pub loading-first : length a ≡ size → Loading With part a a l 0
+  loading-first e = record { long = e; others = refl; front = refl; counts = record { regulars = refl; complexes = refl; right = λ h. h } }
+
+  pub loading-next : (b b' : List ℕ) (i : ℕ) → Loading With part a b l i → i < n → length l ≡ n → (x : A) → x ≡ get_or l i none → length b' ≡ length b →
+      venue_of b' ≡ With (venue_of b) (set (part (venue_of b)) i x) → SameCounts b b' → Loading With part a b' l (i + 1)
+  loading-next b b' i m lt ln x is e v c = record {
+    long = e ∙ m.long;
+    others = ap (λ (w : Venue). With w l) v ∙ again (venue_of b) (set (part (venue_of b)) i x) l ∙ m.others;
+    front =
+        ap (λ (w : Venue). take (i + 1) (part w)) v ∙ ap (take (i + 1)) (got (venue_of b) (set (part (venue_of b)) i x))
+        ∙ ap (λ (k : ℕ). take k (set (part (venue_of b)) i x)) (add-one i)
+        ∙ take-suc-set (part (venue_of b)) i x (omega (arith, many b))
+        ∙ ap (λ (t : List A). t ++ (x ∷ [])) m.front
+        ∙ ap (λ (y : A). take i l ++ (y ∷ [])) is
+        ∙ sym (take-suc l i none (omega arith))
+        ∙ sym (ap (λ (k : ℕ). take k l) (add-one i));
+    counts = record { regulars = c.regulars ∙ m.counts.regulars; complexes = c.complexes ∙ m.counts.complexes; right = λ h. c.right (m.counts.right h) };
+  }
+
+  pub loading-last : (b : List ℕ) (i : ℕ) → Loading With part a b l i → n ≤ i → length l ≡ n → venue_of b ≡ With (venue_of a) l
+  loading-last b i m h ln =
+      sym (own (venue_of b))
+      ∙ ap (With (venue_of b)) (sym (take_all i (part (venue_of b)) (omega (arith, many b))) ∙ m.front ∙ take_all i l (omega arith))
+      ∙ m.others
+
+abbrev pub LoadingLeggings : (a b : List ℕ) (l : List Legging) (i : ℕ) → Type 0
+LoadingLeggings = Loading with_legging (λ v. v.legging)
+
+pub legging-first : (a : List ℕ) (l : List Legging) → length a ≡ size → LoadingLeggings a a l 0
+unfolding with_legging
+legging-first = loading-first with_legging (λ v. v.legging) no_legging 16 (λ v x y. refl) (λ v x. refl) (λ v. refl) legging-many
+
+pub legging-next : (a : List ℕ) (l : List Legging) (b b' : List ℕ) (i : ℕ) → LoadingLeggings a b l i → i < 16 → length l ≡ 16 → (x : Legging) → x ≡ get_or l i no_legging →
+    length b' ≡ length b → venue_of b' ≡ with_legging (venue_of b) (set (venue_of b).legging i x) → SameCounts b b' → LoadingLeggings a b' l (i + 1)
+unfolding with_legging
+legging-next = loading-next with_legging (λ v. v.legging) no_legging 16 (λ v x y. refl) (λ v x. refl) (λ v. refl) legging-many
+
+pub legging-last : (a : List ℕ) (l : List Legging) (b : List ℕ) (i : ℕ) → LoadingLeggings a b l i → 16 ≤ i → length l ≡ 16 → venue_of b ≡ with_legging (venue_of a) l
+unfolding with_legging
+legging-last = loading-last with_legging (λ v. v.legging) no_legging 16 (λ v x y. refl) (λ v x. refl) (λ v. refl) legging-many
+
+abbrev pub LoadingSeries : (a b : List ℕ) (l : List Listed) (i : ℕ) → Type 0
+LoadingSeries = Loading with_series (λ v. v.series)
+
+series-many : (b : List ℕ) → length (venue_of b).series ≡ 8
+unfolding venue_of
+series-many b = upto-length (listed_in b) 0 8
+
+pub series-first : (a : List ℕ) (l : List Listed) → length a ≡ size → LoadingSeries a a l 0
+unfolding with_series
+series-first = loading-first with_series (λ v. v.series) not_listed 8 (λ v x y. refl) (λ v x. refl) (λ v. refl) series-many
+
+pub series-next : (a : List ℕ) (l : List Listed) (b b' : List ℕ) (i : ℕ) → LoadingSeries a b l i → i < 8 → length l ≡ 8 → (x : Listed) → x ≡ get_or l i not_listed →
+    length b' ≡ length b → venue_of b' ≡ with_series (venue_of b) (set (venue_of b).series i x) → SameCounts b b' → LoadingSeries a b' l (i + 1)
+unfolding with_series
+series-next = loading-next with_series (λ v. v.series) not_listed 8 (λ v x y. refl) (λ v x. refl) (λ v. refl) series-many
+
+pub series-last : (a : List ℕ) (l : List Listed) (b : List ℕ) (i : ℕ) → LoadingSeries a b l i → 8 ≤ i → length l ≡ 8 → venue_of b ≡ with_series (venue_of a) l
+unfolding with_series
+series-last = loading-last with_series (λ v. v.series) not_listed 8 (λ v x y. refl) (λ v x. refl) (λ v. refl) series-many
+
+-- Editions, each of which a place holds as it is -------------------------------------------------
+
+abbrev low_edition : ℕ → ℕ
+low_edition i = 4 * i + edition_number_at
+
+edition-wide : (i : ℕ) (e : Edition) → 4 * i + edition_number_at + length (edition_row e) ≡ 4 * (i + 1) + edition_number_at
+unfolding edition_row
+edition-wide i e = omega arith
+
+edition-agree : (a b : List ℕ) (l h i : ℕ) → Outside l h a b → (4 * (i + 1) + edition_number_at ≤ l) ⊎ (h ≤ 4 * i + edition_number_at) → edition_in a i ≡ edition_in b i
+edition-agree a b l h i o (inl w) = edition-kept o i (inl (omega arith))
+edition-agree a b l h i o (inr w) = edition-kept o i (inr w)
+
+abbrev edition_put : List ℕ → ℕ → Edition → List ℕ
+edition_put a i e = sets a (4 * i + edition_number_at) (edition_row e)
+
+abbrev OutsideEditions : (i j : ℕ) (a b : List ℕ) → Type 0
+OutsideEditions i j = Outside (4 * i + edition_number_at) (4 * j + edition_number_at)
+
+edition-rows : Rows 32 edition_in edition_put OutsideEditions
+edition-rows = rows-between 32 low_edition edition_in edition_row (λ i j h. omega arith) edition-wide edition-agree
+
+abbrev pub LayingEditions : (a b : List ℕ) (l : List Edition) (i : ℕ) → Type 0
+LayingEditions = Laying (λ _. true) no_edition edition_in OutsideEditions
+
+pub editions-first : (a : List ℕ) (l : List Edition) → length a ≡ size → LayingEditions a a l 0
+editions-first = laying-first (λ _. true) no_edition 32 edition_in edition_put OutsideEditions edition-rows
+
+pub editions-next : (a b b' : List ℕ) (l : List Edition) (i : ℕ) → LayingEditions a b l i → i < 32 → (e : Edition) → e ≡ get_or l i no_edition →
+    e.figure < 256 → e.value < 256 → b' ≡ edition_put b i e → LayingEditions a b' l (i + 1)
+editions-next a b b' l i m lt e is w x q =
+    rw (q, is) (laying-next (λ _. true) no_edition 32 edition_in edition_put OutsideEditions edition-rows a b l i m lt refl
+    (edition-back b i (get_or l i no_edition) m.long lt (rw is at w) (rw is at x)))
+
+editions-part : (b : List ℕ) → (venue_of b).editions ≡ in_use (edition_in b) no_edition 32 32
+unfolding venue_of
+editions-part b = sym (whole (edition_in b) no_edition 32)
+
+pub editions-last : (a b : List ℕ) (l : List Edition) (i : ℕ) → LayingEditions a b l i → length l ≡ 32 → i ≡ 32 → EditionsLoaded a l b
+unfolding with_editions
+editions-last a b l i m n e = record {
+  venue = venue-is (venue_of b) (with_editions (venue_of a) l) (regulars-kept o (omega arith) (inr (omega arith)) (inl (omega arith))) (complexes-kept o (inr (omega arith)) (inl (omega arith)))
+      (leggings-kept o (inr (omega arith))) (series-kept o (inr (omega arith))) part (generations-kept o (inl (omega arith))) (last-kept o (inl (omega arith))) (reached-kept o (inr (omega arith)));
+  regulars = count_kept o (inl (omega arith));
+  complexes = count-kept2 o (inl (omega arith));
+}
+  where
+    o : Outside edition_number_at figures_at a b
+    o = wider (omega arith) (omega arith) m.outside
+
+    part : (venue_of b).editions ≡ l
+    part = editions-part b ∙ sym (ap (λ (k : ℕ). in_use (edition_in b) no_edition k 32) e)
+        ∙ laid (λ _. true) no_edition 32 edition_in edition_put OutsideEditions edition-rows a b l i m n (omega arith)
+        (past_end no_edition l i (omega arith))
+
+-- The whole venue -----------------------------------------------------------------------------
+
+figures-some : (v : Venue) (s : ℕ) → 0 < increment v s → 0 < figure_now v s
+unfolding increment
+figures-some v s h = h
+
+pub beside-counted : (h f : List ℕ) (x : ℕ) → length h ≡ size → x ≡ mask (venue_of h).legging → length f ≡ length h → FiguresCounted h f →
+    BesideCounted h (set (set (set (set f regulars_known_at 0) complexes_known_at 0) legging_mask_at x) show_again_at 0)
+beside-counted h f x wide count even figs = record {
+  venue = same;
+  regulars = count_kept four (inl (omega arith)) ∙ count_kept three (inl (omega arith)) ∙ count_kept two (inl (omega arith)) ∙ count_kept one
+      (inl (omega arith)) ∙ count_kept aside (inl (omega arith));
+  complexes = count-kept2 four (inl (omega arith)) ∙ count-kept2 three (inl (omega arith)) ∙ count-kept2 two (inl (omega arith)) ∙ count-kept2 one
+      (inl (omega arith)) ∙ count-kept2 aside (inl (omega arith));
+  marked = λ steps shown. record {
+    regulars = λ k w. absurd
+        (omega (
+          arith,
+          four.same regulars_known_at (inl (omega arith)),
+          three.same regulars_known_at (inl (omega arith)),
+          two.same regulars_known_at (inl (omega arith)),
+          get_or-set_same f regulars_known_at 0 0 (omega (arith, long)),
+        ));
+    complexes = λ k w. absurd
+        (omega (
+          arith,
+          four.same complexes_known_at (inl (omega arith)),
+          three.same complexes_known_at (inl (omega arith)),
+          get_or-set_same (set f regulars_known_at 0) complexes_known_at 0 0 (omega (arith, long, length-set f regulars_known_at 0)),
+        ));
+    legging = four.same legging_mask_at (inl (omega arith)) ∙ get_or-set_same (set (set f regulars_known_at 0) complexes_known_at 0) legging_mask_at x 0
+        (omega (arith, long, length-set (set f regulars_known_at 0) complexes_known_at 0, length-set f regulars_known_at 0))
+        ∙ count ∙ ap (λ (w : Venue). mask w.legging) (sym same);
+    figures = figures-marked four (inr (omega arith)) (figures-marked three (inl (omega arith)) (figures-marked two (inl (omega arith)) (figures-marked one (inl (omega arith)) (figured steps))));
+    shows = λ _. subst (λ (w : Venue). Fully w.regular) (sym same) shown;
+  };
+}
+  where
+    y : List ℕ
+    y = set (set (set f regulars_known_at 0) complexes_known_at 0) legging_mask_at x
+
+    aside : Outside figures_at regular_reserve_at h f
+    aside = counted-outside h f figs
+
+    one : Outside regulars_known_at complexes_known_at f (set f regulars_known_at 0)
+    one = stored f regulars_known_at 0
+
+    two : Outside complexes_known_at legging_mask_at (set f regulars_known_at 0) (set (set f regulars_known_at 0) complexes_known_at 0)
+    two = stored (set f regulars_known_at 0) complexes_known_at 0
+
+    three : Outside legging_mask_at edition_number_at (set (set f regulars_known_at 0) complexes_known_at 0) y
+    three = stored (set (set f regulars_known_at 0) complexes_known_at 0) legging_mask_at x
+
+    four : Outside show_again_at generation_messages_at y (set y show_again_at 0)
+    four = stored y show_again_at 0
+
+    long : length f ≡ size
+    long = even ∙ wide
+
+    beside : venue_of f ≡ venue_of h
+    beside = beside-venue aside (omega arith) (inr (omega arith)) (inr (omega arith)) (omega arith)
+
+    same : venue_of (set y show_again_at 0) ≡ venue_of h
+    same = beside-venue four (omega arith) (inr (omega arith)) (inl (omega arith)) (omega arith) ∙ beside-venue three (omega arith)
+        (inl (omega arith)) (inr (omega arith)) (omega arith) ∙ beside-venue two (omega arith) (inl (omega arith)) (inr (omega arith)) (omega arith)
+        ∙ beside-venue one (omega arith) (inl (omega arith)) (inr (omega arith)) (omega arith) ∙ beside
+
+    figured : ((s : ℕ) → s < 8 → 0 < increment (venue_of h) s) → Figured f
+    figured steps = record { so = figs.figures; some = λ s w. rw (figs.figures s (omega arith), beside) (figures-some (venue_of h) s (steps s w)) }
+
+pub loaded : (v : Venue) (k a b c d e g h y : List ℕ) → venue_of a ≡ with_reached (with_generations (venue_of k) v.generations) v.reached →
+    RegularsLoaded a v.regular b → ComplexesLoaded b v.complex c → venue_of d ≡ with_legging (venue_of c) v.legging → SameCounts c d →
+    venue_of e ≡ with_series (venue_of d) v.series → SameCounts d e → EditionsLoaded e v.editions g → venue_of h ≡ with_last (venue_of g) v.last → SameCounts g h →
+    BesideCounted h y → ((s : ℕ) → s < 8 → 0 < increment v s) → Fully v.regular → Laid v y
+unfolding with_regular with_complex with_legging with_series with_editions with_generations with_last with_reached
+loaded v k a b c d e g h y t rs cs ls n ss o es lt p beside steps shown =
+    let is : venue_of h ≡ v = lt ∙ ap (λ (w : Venue). with_last w v.last)
+    (es.venue ∙ ap (λ (w : Venue). with_editions w v.editions)
+    (ss ∙ ap (λ (w : Venue). with_series w v.series)
+    (ls ∙ ap (λ (w : Venue). with_legging w v.legging)
+    (cs.venue ∙ ap (λ (w : Venue). with_complex w v.complex) (rs.venue ∙ ap (λ (w : Venue). with_regular w v.regular) t))))) in
+    record {
+      venue = beside.venue ∙ is;
+      regulars = regulars-filled h y (ap (λ (w : Venue). w.regular) beside.venue) beside.regulars
+          (regulars-filled g h (ap (λ (w : Venue). w.regular) lt) p.regulars
+          (regulars-filled e g (ap (λ (w : Venue). w.regular) es.venue) es.regulars
+          (regulars-filled d e (ap (λ (w : Venue). w.regular) ss) o.regulars
+          (regulars-filled c d (ap (λ (w : Venue). w.regular) ls) n.regulars
+          (regulars-filled b c (ap (λ (w : Venue). w.regular) cs.venue) cs.regulars rs.filled)))));
+      complexes = complexes-filled h y (ap (λ (w : Venue). w.complex) beside.venue) beside.complexes
+          (complexes-filled g h (ap (λ (w : Venue). w.complex) lt) p.complexes
+          (complexes-filled e g (ap (λ (w : Venue). w.complex) es.venue) es.complexes
+          (complexes-filled d e (ap (λ (w : Venue). w.complex) ss) o.complexes
+          (complexes-filled c d (ap (λ (w : Venue). w.complex) ls) n.complexes cs.filled))));
+      marked = beside.marked (λ s w. rw is (steps s w)) (rw is shown);
+    }
+
+-- A sound venue can be loaded -----------------------------------------------------------------
+
+pub regular-side : (o : Regular) → regular_in_range o ≡ true → OnSide o.series o.side
+unfolding regular_in_range is_series is_side within
+regular-side o z =
+    let a = leb-true o.series 7 (search (and_l, and_r, z) depth 8) in
+    let b = leb-true o.side 1 (search (and_l, and_r, z) depth 8) in
+    record { series = omega arith; side = omega arith }
+
+regular-asked : (v : Venue) (o : Regular) → (regular_in_range o && on_increment v o && shows_fully o && leb o.id v.last) ≡ true → OnSide o.series o.side × Bounded o
+regular-asked v o h =
+    let r : regular_in_range o ≡ true = search (and_l, and_r, h) depth 8 in
+    let f : shows_fully o ≡ true = search (and_l, and_r, h) depth 8 in
+    (regular-side o r, range-bounded o r f)
+
+pub complex-sides : (c : Complex) (t : Bool) → (complex_in_range c && t) ≡ true → OnSide c.series1 c.side1 × OnSide c.series2 c.side2
+unfolding complex_in_range two_leg_in_range is_series is_side within
+complex-sides c t z =
+    let a = leb-true c.series1 7 (search (and_l, and_r, z) depth 14) in
+    let b = leb-true c.side1 1 (search (and_l, and_r, z) depth 14) in
+    let e = leb-true c.series2 7 (search (and_l, and_r, z) depth 14) in
+    let f = leb-true c.side2 1 (search (and_l, and_r, z) depth 14) in
+    (record { series = omega arith; side = omega arith }, record { series = omega arith; side = omega arith })
+
+books-load : (v : Venue) → regulars_sound v ≡ true → complexes_sound v ≡ true → close_gaps v ≡ v → Stepped v → Loadable v
+unfolding regulars_sound complexes_sound close_gaps with_regular with_complex
+books-load v r c e steps =
+    let a = arranged-out no_regular holds_regular _ blank_regular (λ o. o.id) blank-free (unfold blank_regular in refl) 0 v.regular r in
+    let b = arranged-out no_complex holds_complex _ blank_complex (λ c. c.id) blank-free_c (unfold blank_complex in refl) 0 v.complex c in
+    let p : packed holds_regular no_regular v.regular ≡ v.regular = ap (λ (w : Venue). w.regular) e in
+    let q : packed holds_complex no_complex v.complex ≡ v.complex = ap (λ (w : Venue). w.complex) e in
+    record {
+      regulars = record { dense = a.dense; blank = rw p at (packed-free holds_regular no_regular v.regular); asked = λ i h. regular-asked v (get_or v.regular i no_regular) (a.asks i h) };
+      complexes = record { dense = b.dense; blank = rw q at (packed-free holds_complex no_complex v.complex); asked = λ i h. complex-sides _ _ (b.asks i h) };
+      orders = sound-orderly v r;
+      shows = sound-fully v r;
+      increments = steps;
+    }
+
+pub editions-dated : (v : Venue) → editions_sound v ≡ true → Dated v
+unfolding editions_sound edition_in_range
+editions-dated v h i w =
+    let a = arranged-out no_edition holds_edition _ blank_edition (λ e. e.edition) edition-free (unfold blank_edition in refl) 0 v.editions (and_l _ _ h) in
+    let z = a.asks i w in
+    and_l _ _ (and_l _ _ z)
+
+pub sound-loads : (v : Venue) → sound v ≡ true → Loadable v
+unfolding sound
+sound-loads v h =
+    let r : regulars_sound v ≡ true = search (and_l, and_r, h) depth 10 in
+    let c : complexes_sound v ≡ true = search (and_l, and_r, h) depth 10 in
+    let e : editions_sound v ≡ true = search (and_l, and_r, h) depth 10 in
+    books-load v r c (closed_same v r c) (dated-steps v (editions-dated v e))
