@@ -1,4 +1,6 @@
 // Records out: bytes and records written into a lent slice, and the sheet read back.
+#![tactic(auto)]
+
 ghost use Rattle.std.specs.Prelude.{◌≡◌, [], ◌∷◌, ◌++◌, ◌+◌, ◌-◌, ◌*◌, ◌≤◌, length, take, replicate};
 ghost use Rattle.rules.specs.Bytes.{bytes, i32};
 ghost use Rattle.rules.specs.Records.{answer, trade, pair, generated, removed, crossed, cancelled, looked};
@@ -11,7 +13,7 @@ use rules::Cause;
 
 // The bytes of `src` at `at`, and the position after them. Where they do not fit nothing is written, and the position is past the end.
 pub fn put(out: &mut [u8], at: usize, src: &[u8]) -> usize
-    ensures { seen out.new result ≡ seen out.old at plus (λ x. x.now) src.entry }
+    ensures { seen out.new result ≡ seen out.old at plus src.now }
 {
     let n = out.len();
     if n < at {
@@ -234,7 +236,7 @@ pub fn zero_from(out: &mut [u8], at: usize)
 // The sheet read back -------------------------------------------------------------------------
 
 // What stands at a position of a report memory: a record, by its kind and the position after it, or the end of the sheet.
-#[derive(Drop)]
+#[derive(Clone, Copy)]
 pub enum Next {
     Found(u16, usize),
     End,

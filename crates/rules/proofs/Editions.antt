@@ -28,14 +28,14 @@ ed v i = get_or v.editions i no_edition
 pub last-by : (P : ℕ → Type 0) (f x : ℕ) (es : List Edition) → P x → ((i : ℕ) → sets f (get_or es i no_edition) ≡ true → P (get_or es i no_edition).value) → P (last_value f x es)
 unfolding last_value
 last-by P f x [] h k = h
-last-by P f x (e ∷ es) h k = last-by P f _ es (if-by P (sets f e) (λ t. k 0 t) (λ _. h)) (λ i. k (suc i))
+last-by P f x (e ∷ es) h k = last-by P f (if sets f e then e.value else x) es (if-by P (sets f e) (λ t. k 0 t) (λ _. h)) (λ i. k (suc i))
 
 -- an edition of another figure, at a place that sets it neither, moves nothing
 pub last_set : (f x : ℕ) (es : List Edition) (i : ℕ) (e : Edition) → sets f (get_or es i no_edition) ≡ false → sets f e ≡ false → last_value f x (set es i e) ≡ last_value f x es
 unfolding last_value
 last_set f x [] i e h k = refl
 last_set f x (y ∷ es) zero e h k = ap (λ (b : Bool). last_value f (if b then e.value else x) es) k ∙ sym (ap (λ (b : Bool). last_value f (if b then y.value else x) es) h)
-last_set f x (y ∷ es) (suc i) e h k = last_set f _ es i e h k
+last_set f x (y ∷ es) (suc i) e h k = last_set f (if sets f y then y.value else x) es i e h k
 
 -- The figures in force ------------------------------------------------------------------------
 

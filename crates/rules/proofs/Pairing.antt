@@ -12,7 +12,7 @@ use lib.ListN.{length}
 use borrow.Author.Tests.{eqb-false, eqb-true}
 use Rattle.rules.specs.declared.Complex.{Complex}
 use Rattle.rules.specs.declared.Venue.{Venue}
-use Rattle.rules.specs.Base.{first, held, if◌then◌else◌}
+use Rattle.rules.specs.Base.{held, if◌then◌else◌}
 use Rattle.rules.specs.Words.{complex_at, opposite, with_complex, with_legging}
 use Rattle.rules.specs.Records.{Report, trade}
 use Rattle.rules.specs.Effects.{Effect, ◌⟫◌, report}

@@ -27,7 +27,7 @@ module _ {A : Type 0} (d : A) (candidate : A → Bool) where
   module _ (before : A → A → Bool) where
     past : (n : ℕ) (a : A) (l : List A) (x : Choice A) → candidate a ≡ false → ChosenFrom (suc n) l x → ChosenFrom n (a ∷ l) x
     unfolding ChosenFrom
-    past n a l nobody e h = λ i. elim i [ zero ↦ λ _. e | suc j ↦ λ q. h j (omega arith) ]
+    past n a l nobody e h = λ i. elim i as (λ k. k < length (a ∷ l) → candidate (get_or (a ∷ l) k d) ≡ false) [ zero ↦ λ _. e | suc j ↦ λ q. h j (omega arith) ]
     past n a l (picked j b) e h =
         let z = h.1 in
         (suc h.0, omega arith, record { fits = let f = h.2.fits in omega arith; at = h.2.at; is = h.2.is })
@@ -85,16 +85,16 @@ module _ {A : Type 0} (d : A) (candidate : A → Bool) (before : A → A → Boo
   least-past : (a : A) (l : List A) (x : Choice A) → candidate a ≡ false → Least l x → Least (a ∷ l) x
   unfolding Least
   least-past a l nobody e h = tt
-  least-past a l (picked j b) e h = (h.0, λ i. elim i [ zero ↦ λ _ c. absurd (true≢false (sym c ∙ e)) | suc k ↦ λ q c. h.1 k (omega arith) c ])
+  least-past a l (picked j b) e h = (h.0, λ i. elim i as (λ j. j < length (a ∷ l) → candidate (get_or (a ∷ l) j d) ≡ true → before (get_or (a ∷ l) j d) b ≡ false) [ zero ↦ λ _ c. absurd (true≢false (sym c ∙ e)) | suc k ↦ λ q c. h.1 k (omega arith) c ])
 
   least-onto : (n : ℕ) (a : A) (l : List A) (x : Choice A) → candidate a ≡ true → ((i : ℕ) → i < length l → candidate (get_or l i d) ≡ true → x ≡ nobody → ⊥) →
       Least l x → Least (a ∷ l) (ranked before n a x)
   unfolding Least ranked
-  least-onto n a l nobody e some h = (e, λ i. elim i [ zero ↦ λ _ _. self a e | suc k ↦ λ q c. absurd (some k (omega arith) c refl) ])
+  least-onto n a l nobody e some h = (e, λ i. elim i as (λ j. j < length (a ∷ l) → candidate (get_or (a ∷ l) j d) ≡ true → before (get_or (a ∷ l) j d) a ≡ false) [ zero ↦ λ _ _. self a e | suc k ↦ λ q c. absurd (some k (omega arith) c refl) ])
   least-onto n a l (picked j b) e some h = go (before b a) refl
     where
       kept : before b a ≡ true → Least (a ∷ l) (picked j b)
-      kept t = (h.0, λ i. elim i [ zero ↦ λ _ _. ranks.asym b a h.0 e t | suc k ↦ λ q c. h.1 k (omega arith) c ])
+      kept t = (h.0, λ i. elim i as (λ j. j < length (a ∷ l) → candidate (get_or (a ∷ l) j d) ≡ true → before (get_or (a ∷ l) j d) b ≡ false) [ zero ↦ λ _ _. ranks.asym b a h.0 e t | suc k ↦ λ q c. h.1 k (omega arith) c ])
 
       other : before b a ≡ false → (k : ℕ) → k < length l → candidate (get_or l k d) ≡ true → (u : Bool) → before (get_or l k d) a ≡ u → before (get_or l k d) a ≡ false
       other t k q c true w = absurd (true≢false (sym (ranks.cotrans (get_or l k d) a b c e h.0 w (h.1 k q c)) ∙ t))
@@ -102,7 +102,7 @@ module _ {A : Type 0} (d : A) (candidate : A → Bool) (before : A → A → Boo
 
       go : (t : Bool) → before b a ≡ t → Least (a ∷ l) (if t then picked j b else picked n a)
       go true t = kept t
-      go false t = (e, λ i. elim i [ zero ↦ λ _ _. self a e | suc k ↦ λ q c. other t k (omega arith) c (before (get_or l k d) a) refl ])
+      go false t = (e, λ i. elim i as (λ j. j < length (a ∷ l) → candidate (get_or (a ∷ l) j d) ≡ true → before (get_or (a ∷ l) j d) a ≡ false) [ zero ↦ λ _ _. self a e | suc k ↦ λ q c. other t k (omega arith) c (before (get_or l k d) a) refl ])
 
   least-from : (n : ℕ) (l : List A) → Least l (first_from candidate before n l)
   unfolding first_from Least ChosenFrom

@@ -8,7 +8,6 @@ use native.Mathlib.Omega.{arith}
 use lib.ListN.{get_or, length, set}
 use lib.Seq.{get_or-set_other, get_or-set_same}
 use Rattle.rules.specs.Base.{held}
-use Rattle.rules.proofs.Generating.{new}
 
 module _ {A : Type 0} (none : A) (id quantity : A → ℕ) (l : List A) (i : ℕ) (o : A) where
   abbrev put : List A

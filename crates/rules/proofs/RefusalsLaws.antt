@@ -5,9 +5,9 @@ use mathlib.Core.Logic.{◌≢◌}
 use mathlib.Core.List.{List}
 use Prim.Native.Nat.{ℕ, ◌≤◌, ◌<◌}
 use native.Mathlib.Omega.{arith}
-use lib.Dec.{eqb, leb, ltb}
+use lib.Dec.{eqb, ltb}
 use lib.ListN.{length}
-use borrow.Author.Tests.{eq-eqb, eqb-false, eqb-true, le-ltb, leb-true, ltb-false, ne_eqb}
+use borrow.Author.Tests.{eqb-false, eqb-true, le-ltb, ltb-false, ne_eqb}
 use Rattle.rules.specs.declared.Venue.{Venue}
 use Rattle.rules.specs.declared.Message.{Message}
 use Rattle.rules.specs.declared.Message.TheVariants.{Order, TwoLeg, Cancel, Away, Status, Sweep, Increment, Percent, LimitedSweep}
@@ -19,7 +19,7 @@ use Rattle.rules.specs.Bytes.{u8_at, length_field, kind_field}
 use Rattle.rules.specs.Messages.{two_leg_at, message_of}
 use Rattle.rules.specs.Refusals.{torn, is_kind, is_length, regular_in_range, two_leg_in_range, far_of, in_range, equal_ratios, decoded, complex_in_range}
 use Rattle.rules.specs.Refusals.{off_increment, edition_too_low, in_use, no_edition_left, id_too_low, on_closed, full, unknown, refusal_of, refusal}
-use Rattle.rules.proofs.Tests.{and_in, and_l, and_r, not-out, or-false-l, or-false-r}
+use Rattle.rules.proofs.Tests.{and_in, not-out, or-false-l, or-false-r}
 use Rattle.rules.proofs.Cases.{if-by}
 
 -- What a message that is taken brings: its fields in range, and of a complex order that it may rest.

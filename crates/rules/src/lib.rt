@@ -1,9 +1,10 @@
 // The venue of document 01 and what rests in it, a message, and why a legging order goes.
 // The definitions (specs/) use these types as their records: an array is a list, an unsigned number a natural one, an i32 an integer.
+#![tactic(auto)]
 
 // A regular order: quantity is what is left of it, reserve what of that it does not show, display the shown quantity that it shows again before settling (or
 // what is left of it, where that is less). Its place is free when its quantity is 0.
-#[derive(Drop)]
+#[derive(Clone, Copy)]
 pub struct Regular {
     pub id: u32,
     pub series: u8,
@@ -16,7 +17,7 @@ pub struct Regular {
 
 // A two-leg complex order; limit is N. A unit of it is ratio1 contracts of the first leg and ratio2 of the second, and its quantity is in units.
 // Its place is free when its quantity is 0.
-#[derive(Drop)]
+#[derive(Clone, Copy)]
 pub struct Complex {
     pub id: u32,
     pub series1: u8,
@@ -31,7 +32,7 @@ pub struct Complex {
 }
 
 // A legging order; its place says its series and side. The place is free when its quantity is 0.
-#[derive(Drop)]
+#[derive(Clone, Copy)]
 pub struct Legging {
     pub parent: u32,
     pub price: u32,
@@ -39,7 +40,7 @@ pub struct Legging {
 }
 
 // A series' status and its away prices (0: none).
-#[derive(Drop)]
+#[derive(Clone, Copy)]
 pub struct Listed {
     pub status: u8,
     pub bid: u32,
@@ -48,7 +49,7 @@ pub struct Listed {
 
 // An edition of a figure, with the number of the message that entered it: figure 0 to 7 is the increment of that series, 8 the percent of the band.
 // Its place is free when its edition is 0.
-#[derive(Drop)]
+#[derive(Clone, Copy)]
 pub struct Edition {
     pub edition: u32,
     pub message: u32,
@@ -57,12 +58,12 @@ pub struct Edition {
 }
 
 // The numbers of the messages of a series' last 20 generations, oldest first; 0 where there were fewer.
-#[derive(Drop)]
+#[derive(Clone, Copy)]
 pub struct Generations {
     pub messages: [u32; 20],
 }
 
-#[derive(Drop)]
+#[derive(Clone, Copy)]
 pub struct Venue {
     pub regular: [Regular; 128],
     pub complex: [Complex; 32],
@@ -76,14 +77,14 @@ pub struct Venue {
 }
 
 // One leg of a complex order.
-#[derive(Drop)]
+#[derive(Clone, Copy)]
 pub struct Leg {
     pub series: u8,
     pub side: u8,
 }
 
 // What a call returns: its number, the messages done (refused ones counted), the bytes written, the venue.
-#[derive(Drop)]
+#[derive(Clone, Copy)]
 pub struct Returned {
     pub number: u8,
     pub done: u32,
@@ -92,7 +93,7 @@ pub struct Returned {
 }
 
 // The settings in force at a message number, with the number 0; of an unsound venue 9 and zeros.
-#[derive(Drop)]
+#[derive(Clone, Copy)]
 pub struct Settings {
     pub number: u8,
     pub increments: [u8; 8],
@@ -100,7 +101,7 @@ pub struct Settings {
 }
 
 // A message, kinds 1 to 11: an order of kind 1 is one of kind 9 that shows all of it, and TwoLeg is kind 2 where it is one to one, else kind 10.
-#[derive(Drop)]
+#[derive(Clone, Copy)]
 pub enum Message {
     Order(Regular),
     TwoLeg(Complex),
@@ -114,14 +115,14 @@ pub enum Message {
 }
 
 // The bytes at the front of a message list: a message whose fields are in range, or the refusal, 1 to 4 or 14, that they meet.
-#[derive(Drop)]
+#[derive(Clone, Copy)]
 pub enum Decoded {
     Taken(Message),
     Refused(u8),
 }
 
 // Why a legging order goes, in the order of the filing's (C)(4)(i) to (x).
-#[derive(Drop)]
+#[derive(Clone, Copy)]
 pub enum Cause {
     Worse,
     Unpaired,
@@ -135,7 +136,7 @@ pub enum Cause {
 }
 
 // What a test says of a legging order.
-#[derive(Drop)]
+#[derive(Clone, Copy)]
 pub enum Verdict {
     Stands,
     Fails(Cause),

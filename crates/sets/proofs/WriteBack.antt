@@ -273,8 +273,8 @@ module _ (tail : List (List ℕ)) (h : Each Rest tail) (o : in_order tail ≡ tr
   whole-tail : tail ≡ flat (of_part 1 tail ∷ of_part 2 tail ∷ of_part 3 tail ∷ of_part 4 tail ∷ of_part 5 tail ∷ [])
   whole-tail = sym (pieces_are part 1 5 1 tail (omega arith) (parts-climb 1 tail (each_more Rest (λ r. 1 ≤ part r) (λ r f. f.some) tail h) o) (every (λ r. part r < 1 + 5) part-few tail))
 
-  of_part : (k : ℕ) → Of k (of_part k tail)
-  of_part k = each_more (λ r. Rest r × (part r ≡ k)) (λ r. part r ≡ k) (λ r f. f.1) (of_part k tail) (part-rests k tail h)
+  part-of : (k : ℕ) → Of k (of_part k tail)
+  part-of k = each_more (λ r. Rest r × (part r ≡ k)) (λ r. part r ≡ k) (λ r f. f.1) (of_part k tail) (part-rests k tail h)
 
   -- each part in order
   orders-of : (in_order (of_part 2 tail) ≡ true) × (in_order (of_part 3 tail) ≡ true) × (in_order (of_part 4 tail) ≡ true) × (in_order (of_part 5 tail) ≡ true)
@@ -295,7 +295,7 @@ module _ (tail : List (List ℕ)) (h : Each Rest tail) (o : in_order tail ≡ tr
 
   by-series-of : pieces sort_key 0 8 (of_part 4 tail) ≡ of_part 4 tail
   by-series-of =
-      pieces_are sort_key 0 8 0 (of_part 4 tail) (omega arith) (sort-keys-climb 4 (of_part 4 tail) (of_part 4) orders-of.2)
+      pieces_are sort_key 0 8 0 (of_part 4 tail) (omega arith) (sort-keys-climb 4 (of_part 4 tail) (part-of 4) orders-of.2)
       (each_more GenerationOf (λ r. sort_key r < 0 + 8) (λ r g. (let a = g.marked in let b = g.series in omega arith)) (of_part 4 tail) generations-of)
 
   read-tail : (first : List ℕ) (rs : List (List ℕ)) (xs : List Listed) → rs ≡ series_records 0 xs ++ tail → Clean first → kind_field first ≡ 80 → length xs ≡ 8 →
@@ -309,15 +309,15 @@ module _ (tail : List (List ℕ)) (h : Each Rest tail) (o : in_order tail ≡ tr
     g = of_part 4 tail;
     z = of_part 5 tail;
     is = ap (λ (m : List (List ℕ)). first ∷ m) (is ∙ ap (λ (m : List (List ℕ)). series_records 0 xs ++ m) whole-tail);
-    parts = ((first_part first k, f), (of_part 1, (of_part 2, (of_part 3, (of_part 4, (of_part 5, tt))))));
+    parts = ((first_part first k, f), (part-of 1, (part-of 2, (part-of 3, (part-of 4, (part-of 5, tt))))));
     spelled = first-spelled first c k;
     size = n;
     tells = t;
     editions = each_of 1 (λ r. (edition_record (edition_told r) ≡ r) × (held (edition_told r).edition ≡ true)) (λ r c p w k. edition-of r c p k);
     orders = each_of 2 OrderOf (λ r c p w k. order-of r c p k w);
-    orders-rise = sort-keys-rise 2 0 refl (of_part 2 tail) (of_part 2) (every (λ r. 0 ≤ sort_key r) (λ r. omega arith) (of_part 2 tail)) orders-of.0;
+    orders-rise = sort-keys-rise 2 0 refl (of_part 2 tail) (part-of 2) (every (λ r. 0 ≤ sort_key r) (λ r. omega arith) (of_part 2 tail)) orders-of.0;
     leggings = each_of 3 LeggingOf (λ r c p w k. legging-of r c p k);
-    leggings-rise = sort-keys-rise 3 0 refl (of_part 3 tail) (of_part 3) (every (λ r. 0 ≤ sort_key r) (λ r. omega arith) (of_part 3 tail)) orders-of.1;
+    leggings-rise = sort-keys-rise 3 0 refl (of_part 3 tail) (part-of 3) (every (λ r. 0 ≤ sort_key r) (λ r. omega arith) (of_part 3 tail)) orders-of.1;
     generations = generations-of;
     by-series = by-series-of;
     reached = each_of 5 ReachedOf (λ r c p w k. (let z = reached-of r c p k in (k, z.0, z.1, z.2)));

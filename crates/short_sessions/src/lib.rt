@@ -1,4 +1,6 @@
 // The sessions of at most three messages from a list, one after another: shorter first, then by the messages' places in the list; by value, and in lent memory.
+#![tactic(auto)]
+
 ghost use Rattle.std.specs.Prelude.{◌≡◌, [], ◌∷◌, suc, length};
 ghost use Rattle.std.proofs.Math.Option.{some};
 ghost use Rattle.short_sessions.specs.Sessions.{following};
@@ -8,7 +10,7 @@ ghost use Rattle.short_sessions.specs.Values.{found, places_of};
 // By value ------------------------------------------------------------------------------------
 
 // A session: the places of its messages in the list, the first one's being 0.
-#[derive(Drop)]
+#[derive(Clone, Copy)]
 pub enum Session {
     Empty,
     One(u8),
@@ -17,7 +19,7 @@ pub enum Session {
 }
 
 // A session that was found, or that there is none.
-#[derive(Drop)]
+#[derive(Clone, Copy)]
 pub enum Found {
     Is(Session),
     Nothing,

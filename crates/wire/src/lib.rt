@@ -1,4 +1,6 @@
 // Bytes in: little-endian numbers, the fields of messages, and their ranges.
+#![tactic(auto)]
+
 ghost use Rattle.std.specs.Prelude.{◌≡◌, not, ◌&&◌, ◌+◌, ◌-◌, ◌≤◌, ◌<◌, eqb, length};
 ghost use Rattle.rules.specs.Words.{within, is_series, is_side, is_status, is_away, is_limit};
 ghost use Rattle.rules.specs.Settings.{is_increment};

@@ -1,0 +1,7 @@
+use mathlib.Core.Path.{refl}
+use Rattle.rules.specs.Bytes.{bytes}
+use Rattle.records.proofs.bytes4.Goals as goal
+
+pub returns : goal.returns
+unfolding bytes
+returns c = refl

@@ -1,0 +1,20 @@
+use mir.Syntax.{w32}
+use mir.ValLaws.{to_z-of_z}
+use Rattle.rules.specs.Messages.{two_leg_at}
+use Rattle.wire.proofs.two_leg_at.Goals as goal
+
+pub returns : goal.returns
+unfolding two_leg_at
+returns c =
+    rw (
+      to_z-of_z w32 c.as_signed.result (record { sfits = c.as_signed.type_inv }),
+      c.word_at.ensures,
+      c.byte_at.ensures,
+      c.byte_at-2.ensures,
+      c.byte_at-3.ensures,
+      c.byte_at-4.ensures,
+      c.byte_at-5.ensures,
+      c.as_signed.ensures,
+      c.word_at-2.ensures,
+      c.word_at-3.ensures,
+    )
