@@ -6,14 +6,14 @@
 Says each fault as FILE:LINE: what is wrong, and ends with status 1 where there is one. It asks that
 
 - every name in backticks exists:
-    "Words: `isPrice`"          declared in crates/rules/specs/Words.antt (of Trials also in crates/trials/specs); the word holds to the end of the
+    "Words: `is_price`"         declared in crates/rules/specs/Words.antt (of Trials also in crates/trials/specs); the word holds to the end of the
                                 sentence or cell
-    "reader Head: `headAt`"     declared in crates/reader/specs/Head.antt or proofs/Head.antt
+    "reader Head: `head_at`"    declared in crates/reader/specs/Head.antt or proofs/Head.antt
     "engine: `run`"             a function, type, definition or law of that crate
     "Type: `Venue`"             a type of crates/rules/src/lib.rt
     `Soundness.NeverNine`       declared in a file Soundness.antt; `levels::load` is a function of the crate levels
     "`judge` (settling)"        a function, type, definition or law of that crate
-    `isPrice`                   declared anywhere in crates/, host/ or include/
+    `is_price`                  declared anywhere in crates/, host/ or include/
   In a table a column headed "Wrong edit" has must-fail edits after their crate, one headed "Test" functions after their file
   in host/sessions/tests/all, and one headed "Code" functions of crates/*/src alone; one headed by a crate, or by several, has
   their functions; one headed by a file has that file's names; and in one headed "File" each row begins with the file that its
@@ -28,7 +28,7 @@ Says each fault as FILE:LINE: what is wrong, and ends with status 1 where there 
   under "01", and every "Reading 14" is a number of docs/DECISIONS.md, section 2;
 - in crates.txt a crate uses only crates above it and has a line that says what it is for, and README's table "Layers" has its layers and crates;
 - no line outside tables and code is longer than 160 characters, and no path of a machine is told;
-- docs/ without docs/requests/ is at most 104,000 bytes, and each note to a request (docs/requests/a.md and so on) at most 3,000.
+- docs/ without docs/requests/ and PORT.md is at most 105,000 bytes, and each note to a request (docs/requests/a.md and so on) at most 3,000.
 
 --names prints what the papers may name, a line for each file or crate. --write puts the lines of the sources into CROSSWALK
 first, where there is one line to put.
@@ -38,14 +38,14 @@ import os
 import re
 import sys
 
-MOST_BYTES = 104_000
+MOST_BYTES = 105_000
 MOST_PER_NOTE = 3_000
 MOST_LINE = 160
 # In these papers a name without a word before it must exist as well.
 EXACT = ("README.md", "docs/CROSSWALK.md", "docs/PROMISES.md", "docs/AUDIT.md", "docs/ARCHITECTURE.md", "docs/DECISIONS.md", "docs/requests/")
 # Words of the languages and of their libraries, and names of the tools.
 FOREIGN = {"ensures", "requires", "main", "memcpy", "memset", "valgrind", "rt", "cargo", "cc", "unsafe", "now", "entry",
-           "exit", "match", "extern", "io", "libc", "os", "true", "false"}
+           "exit", "old", "new", "result", "match", "extern", "std", "Global", "HostRuntime", "true", "false"}
 NOT_ASKED = {"Trials", "Opened", "Lib"}
 MACHINE = re.compile(r"(?<![\w.~-])/(?:tmp|work|root|opt|home|usr|var|etc|mnt)\b")
 PATH = re.compile(r"(?<![\w/.-])(?:crates|host|docs|tests|include|examples|bin)/[\w./+*-]*[\w*]")
@@ -59,7 +59,7 @@ COLUMNS_WITH_LINES = ("Definition", "Definitions", "Trial")
 # What a line number stands after in CROSSWALK, and the file word that says of which file a name is.
 LINED = re.compile(r'(?:\b([a-z_]+) )?\b([A-Z]\w*): (?=`)|`([^`]+)` \(\d+\)|(\*?)"([^"]+)" \(\d+\)|Example (\d+) \(\d+\)')
 DECLARED = re.compile(r"(\s*)((?:(?:pub|abbrev|unfoldable|opaque|private|record|data)\s+)*)([^\s:(){}\[\]]+)(?:\s+[({].*?)?\s+:(?:\s|$)")
-NAME = re.compile(r"[^\W\d][\w·⟫'-]*|_[^\s`.()]+_")
+NAME = re.compile(r"[^\W\d][\w·⟫◌'-]*|◌[^\s`.()]+◌")
 
 
 def read(path):
@@ -364,13 +364,13 @@ class Papers:
 
     def layers(self):
         """That crates.txt is in order, with a line on each crate, and that README's table of layers is its layers, the last one first."""
-        layers, said, known = [], None, {"io", "libc", "os"}
+        layers, said, known = [], None, set()
         for number, line in enumerate(read("crates.txt").split("\n"), 1):
             if found := re.fullmatch(r"# ([a-z_]+): \S.*", line):
                 said = found[1]
             elif line.startswith("# "):
                 layers.append((line[2:], []))
-            elif found := re.fullmatch(r"([a-z_]+):((?: [a-z_]+)*)", line):
+            elif found := re.fullmatch(r"([a-z_]+)(?: staticlib)?:((?: [a-z_]+)*)", line):
                 crate, used = found[1], found[2].split()
                 if said != crate:
                     self.fault("crates.txt", number, f"the line before does not say what {crate} is for")
@@ -386,7 +386,7 @@ class Papers:
             self.fault("README.md", 1, "the rows of README's layers are not in the order of crates.txt, the last layer first")
 
     def size(self):
-        total = sum(os.path.getsize(p) for p in glob.glob("docs/*.md"))
+        total = sum(os.path.getsize(p) for p in set(glob.glob("docs/*.md")) - {"docs/PORT.md"})
         if total > MOST_BYTES:
             self.fault("docs", 0, f"{total} bytes, at most {MOST_BYTES}")
         for path in sorted(glob.glob("docs/requests/[a-z].md")):

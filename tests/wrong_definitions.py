@@ -55,38 +55,34 @@ LEFT_OUT = {"Trials", "Opened", "Lengths", "Fields", "Lib"}
 MORE = "MoreTrials.antt"  # the file of the crate trials, in the copy of rules
 FILING = "Filing.antt"  # and the one of the filing's examples
 # a statement by computation that fails, and one that is not computed to its end
-TRIAL = re.compile(r"(?:Trials|Filing)\.antt:\d+:\d+: error: `(?:trials|starred|telling|reserves|units|seasons|traffic|filing)-[\w-]+`: expected type")
+TRIAL = re.compile(r"(?:Trials|Filing)\.antt:\d+:\d+: error: `(?:trials|starred|telling|reserves|units|seasons|traffic|filing)[-_][\w-]+`: expected type")
 ENDLESS = re.compile(r"(?:Trials|Filing)\.antt:.*steps")
 COMPUTED = re.compile(r"(?:specs/(?:Trials|Filing)|proofs/(?:Witness|Longer))\.antt:\d+:\d+: error.*(?:expected type|steps|the two types)")
 TYPES = {"OneByte", "TwoBytes", "FourBytes", "FourSigned", "Fits", "ForAll"}
 SIGNATURE = re.compile(r"\s*(abbrev|unfoldable|pub|use|infix|infixl|data|record|module|--)\b|\s*--")
 # what a name may be mistaken for
 NAMES = {
-    "&&": "||", "||": "&&", "leb": "ltb", "ltb": "leb", "leZ": "ltZ", "ltZ": "leZ", "eqb": "leb", "+": "-", "-": "+",
+    "&&": "||", "||": "&&", "leb": "ltb", "ltb": "leb", "le_z": "lt_z", "lt_z": "le_z", "eqb": "leb", "+": "-", "-": "+",
     "*": "+", "/": "*", "%": "/", "+ℤ": "-ℤ", "-ℤ": "+ℤ", "*ℤ": "+ℤ", "true": "false", "false": "true",
-    "buy": "sell", "sell": "buy", "opened": "closed", "closed": "opened", "customer": "otherClass",
-    "otherClass": "customer", ".series1": ".series2", ".series2": ".series1", ".side1": ".side2", ".side2": ".side1",
-    ".bid": ".offer", ".offer": ".bid", "bestOwn": "bestRegular", "bestRegular": "bestOwn",
-    "marketBest": "bestRegular", "clearPrice": "bestRegular", "restsAt": "showsAt", "isPrice": "isAway",
-    "series1": "series2", ".ratio1": ".ratio2", ".ratio2": ".ratio1", "ownSize": "bestSize", "NoUnit": "Touched",
+    "buy": "sell", "sell": "buy", "opened": "closed", "closed": "opened", "customer": "other_class",
+    "other_class": "customer", ".series1": ".series2", ".series2": ".series1", ".side1": ".side2", ".side2": ".side1",
+    ".bid": ".offer", ".offer": ".bid", "best_own": "best_regular", "best_regular": "best_own",
+    "market_best": "best_regular", "clear_price": "best_regular", "rests_at": "shows_at", "is_price": "is_away",
+    "series1": "series2", ".ratio1": ".ratio2", ".ratio2": ".ratio1", "own_size": "best_size", "NoUnit": "Touched",
     "Worse": "Unpaired", "Unpaired": "OutOfBand", "OutOfBand": "NotOpen", "NotOpen": "Worse",
     "Executed": "Withdrawn", "Withdrawn": "Executed", "Touched": "Executed", "Replaced": "Touched",
     "≤": "<", "<": "≤", "u8": "u16", "u16": "u32", "u32": "u16", "i32": "u32", "u8At": "u16At", "u16At": "u8At", "u32At": "u16At",
 }
 # a function that may be forgotten: `f x` -> `x`
-FORGOTTEN = {"not", "suc", "opposite", "negℤ", "asSigned", "closeGaps", "natAbs"}
+FORGOTTEN = {"not", "suc", "opposite", "neg_ℤ", "as_signed", "close_gaps", "nat_abs"}
 # names that an edit may need, beside those that a file uses already
 IMPORTS = {
-    "use mathlib.Core.Bool.{": ["true", "false", "not", "_&&_", "_||_"],
-    "use lib.Dec.{": ["leb", "ltb", "eqb"],
-    "use lib.Signed.{": ["leZ", "ltZ"],
-    "use Prim.Native.Nat.{": ["_+_", "_-_", "_*_", "_/_", "_%_"],
-    "use lib.IntN.{": ["_+ℤ_", "_-ℤ_", "_*ℤ_", "negℤ"],
-    "use Rattle·rules·specs.specs.Words.{": ["buy", "sell", "opened", "closed", "customer", "otherClass"],
-    "use Rattle·rules·specs.specs.Prices.{": ["bestOwn", "bestRegular", "showsAt"],
-    "use Rattle·rules·specs.specs.declared.Cause.the-variants.{":
-        ["Worse", "Unpaired", "Executed", "Withdrawn", "OutOfBand", "NotOpen", "Touched"],
-    "use Rattle·rules·specs.specs.Bytes.{": ["u8At", "u16At", "u32At", "u8", "u16", "u32"],
+    "use Rattle.std.specs.Prelude.{": ["true", "false", "not", "◌&&◌", "◌||◌", "leb", "ltb", "eqb", "◌+◌", "◌-◌", "◌*◌", "◌/◌", "◌%◌", "ℤ", "neg_ℤ", "◌+ℤ◌", "◌-ℤ◌", "◌*ℤ◌"],
+    "use Rattle.std.specs.Int.Signed.{": ["le_z", "lt_z"],
+    "use Rattle.rules.specs.Words.{": ["buy", "sell", "opened", "closed", "customer", "other_class"],
+    "use Rattle.rules.specs.Prices.{": ["best_own", "best_regular", "shows_at"],
+    "use Rattle.rules.specs.declared.Cause.TheVariants.{": ["Worse", "Unpaired", "Executed", "Withdrawn", "OutOfBand", "NotOpen", "Touched"],
+    "use Rattle.rules.specs.Bytes.{": ["u8_at", "u16_at", "u32_at", "u8", "u16", "u32"],
 }
 # the parts of the trials in the order in which they are tried: those first that cost least for what they refuse
 PARTS = [["starred", "layouts", "edges", "faults", "lefts", "numbers"], ["met", "settled", "made"], ["worked"], ["wrongs"]]
@@ -96,18 +92,20 @@ DRAWN = {
     "feed Feed": "", "feed Sent": "", "feed Turns": "", "short_sessions Sessions": "", "short_sessions Held": "",
     "demands Ceiling": "", "demands Crosses": "", "demands Dates": "", "demands Reserve": "", "demands LimitedSweeps": "",
     "rules Settings": "",
-    "rules Complex": "reversed respectsLegs crosses fillsUnit touch legIn unitsIn legInTurn placesOf goingRound examined idReached eachOf limitedSweep",
-    "rules Generation": "generationsOf underCeiling oneMore counted makes make",
-    "rules Order": "isMet shownThenId priceThenId atOnce firstMet meetTurn",
-    "rules Prices": "shown showsAt showsFor sizeIn bestSize ownSize weighed net nearNet inBand",
-    "rules Trading": "lessRegular take", "rules Standing": "showsAgain showAgain settle",
-    "rules Refusals": "isKind twoLegInRange farOf inRange equalRatios complexInRange onIncrement editionTooLow idle inUse noEditionLeft refusalOf",
-    "rules Messages": "lengthOf orderAt twoLegAt messageOf orderFields twoLegFields encodeMessage",
-    "rules Sound": "showsFully regularsSound complexesSound figureInRange editionInRange editionsSound unfallen generationsSound sound follows",
-    "rules Calls": "settings", "rules Step": "setFigure perform", "rules Words": "oneToOne isRatio withEditions withGenerations withReached noEdition noGenerations",
+    "rules Complex": "reversed respects_legs crosses fills_unit touch leg_in units_in leg_in_turn places_of going_round examined id_reached each_of limited_sweep",
+    "rules Generation": "generations_of under_ceiling one_more counted makes make",
+    "rules Order": "is_met shown_then_id price_then_id at_once first_met meet_turn",
+    "rules Prices": "shown_size shows_at shows_for size_in best_size own_size weighed net near_net in_band",
+    "rules Trading": "less_regular trade_at_price", "rules Standing": "shows_again show_again settle",
+    "rules Refusals": "is_kind two_leg_in_range far_of in_range equal_ratios complex_in_range on_increment edition_too_low idle in_use no_edition_left refusal_of",
+    "rules Messages": "length_of order_at two_leg_at message_of order_fields two_leg_fields encode_message",
+    "rules Sound": "shows_fully regulars_sound complexes_sound figure_in_range edition_in_range editions_sound unfallen generations_sound sound follows",
+    "rules Calls": "settings", "rules Step": "set_figure perform", "rules Words": "one_to_one is_ratio with_editions with_generations with_reached no_edition no_generations",
 }
 CLAIMS = {"replay Replay", "replay Moments", "demands LimitedSweeps"}
 WORD = re.compile(r"\s+|--[^\n]*|[()\[\]{}]|;|[^\s()\[\]{};]+")
+# a name with what is taken of it, as `c.series1`
+TAKEN = re.compile(r"[^\W\d][\w']*(?:\.[^\W\d][\w']*)+")
 OPEN, CLOSE = "([{", ")]}"
 BREAKS = {"&&", "||", "⟫", "∷", "++", "+", "-", "*", "/", "%", "+ℤ", "-ℤ", "*ℤ", "=", ";", "|", "↦", "if", "then", "else",
           "let", "in", "elim", "record", ":", "→", "<", "×", "≡", "≢", "≤", "⊎"}
@@ -136,7 +134,10 @@ def parsed(text, start, end):
             inner = stack.pop()
             stack[-1].append(Node(opened.pop(), found.end(), "", inner))
         else:
-            stack[-1].append(Node(found.start(), found.end(), word))
+            at = found.start()
+            for part in re.findall(r"\.?[^.]+", word) if TAKEN.fullmatch(word) else [word]:
+                stack[-1].append(Node(at, at + len(part), part))
+                at += len(part)
     return stack[0]
 
 
@@ -152,7 +153,7 @@ def clauses(text):
             found = None
         equals = re.search(r" =(?= |$)", line)
         if not found and indent == 0 and equals and not SIGNATURE.match(line) and " : " not in line[:equals.start()]:
-            name = "_⟫_" if " ⟫ " in line[:equals.start()] else line.split()[0]
+            name = "◌⟫◌" if " ⟫ " in line[:equals.start()] else line.split()[0]
             found = (name, at, at + equals.end(), indent)
         at += len(line) + 1
 
@@ -425,21 +426,19 @@ def write(path, text):
 
 def with_imports(text):
     lines = text.split("\n")
-    for i, line in enumerate(lines):
-        for start, names in IMPORTS.items():
-            start = start.replace("·specs.specs.", ".specs.") if "Rattle·rules.specs." in line else start
-            if line.startswith(start):
-                has = line[len(start):-1].split(", ")
-                lines[i] = start + ", ".join(has + [n for n in names if n not in has]) + "}"
+    for start, names in IMPORTS.items():
+        if at := [i for i, line in enumerate(lines) if line.startswith(start)]:
+            has = [n for i in at for n in lines[i][len(start):-1].split(", ")]
+            lines[at[0]] = ", ".join([lines[at[0]][:-1]] + [n for n in names if n not in has]) + "}"
     return "\n".join(lines)
 
 
-def said_by(command, tree, proved):
-    """Whether a check passed, with a line that begins so; its errors; and the end of what it said."""
-    done = subprocess.run(command, cwd=tree, capture_output=True, text=True, check=False)
+def said_by(command, folder):
+    """Whether a crate is proved, by this command in its folder; its errors; and the end of what it said."""
+    done = subprocess.run(["rt", command], cwd=folder, capture_output=True, text=True, check=False)
     said = (done.stdout + done.stderr).split("\n")
     errors = [re.sub(r"^.*?((?:specs|proofs|src)/)", r"\1", line) for line in said if ": error" in line]
-    passed = done.returncode == 0 and any(line.startswith(proved) for line in said)
+    passed = done.returncode == 0 and any(line.startswith("logic=proved") for line in said)
     return passed, errors, " ".join(said)[-300:]
 
 
@@ -454,17 +453,12 @@ class Copy:
         write(f"{place}/crates.txt", "rules:\n")
         for name, text in files.items():
             self.write(f"{name}.antt", text)
-        self.trials, self.filing = self.inside(root, "Trials.antt"), self.inside(root, FILING)
+        self.trials, self.filing = (read(f"{root}/crates/trials/specs/{name}") for name in ("Trials.antt", FILING))
         self.lib = files["Lib"].rstrip("\n") + "\npub mod MoreTrials\n"
         self.whole()
         names = re.search(r"(?m)^trials = (.*)$", self.trials).group(1).split(" ++ ")
         early = [[n for n in part if n in names] for part in PARTS]
         self.parts = [p for p in early if p] + [[n] for n in names if not any(n in part for part in PARTS)]
-
-    @staticmethod
-    def inside(root, name):
-        """A file of the crate trials as one of the crate rules."""
-        return read(f"{root}/crates/trials/specs/{name}").replace("Rattle·rules.specs.", "Rattle·rules·specs.specs.")
 
     def write(self, name, text):
         write(f"{self.specs}/{name}", text)
@@ -485,9 +479,9 @@ class Copy:
         if os.path.exists(f"{self.specs}/{FILING}"):
             os.remove(f"{self.specs}/{FILING}")
 
-    def checked(self):
+    def checked(self, command="check"):
         """survives, refused, compiles-not or NO VERDICT, with the line that says why."""
-        passed, errors, said = said_by(["rt", "dev", "rules"], self.tree, "logic=proved")
+        passed, errors, said = said_by(command, f"{self.tree}/crates/rules")
         if passed:
             return "survives", ""
         if errors and all(TRIAL.search(e) or ENDLESS.search(e) for e in errors):
@@ -506,27 +500,33 @@ class Copy:
                 break
         self.whole()
         if what == "survives":
-            shutil.rmtree(f"{self.tree}/target/inc", ignore_errors=True)
-            what, why = self.checked()
+            what, why = self.checked("verdict")
         self.write(name, old)
         return what, why
 
 
 class Proofs:
-    """A copy of all crates, with what is proved of them already, in which an edit that no trial of the rules refuses is held against the proofs."""
+    """A copy of all crates, in which an edit that no trial of the rules refuses is held against the proofs."""
 
     def __init__(self, root, place):
         self.root, self.tree, self.lock = root, place, threading.Lock()
-        shutil.copytree(f"{root}/crates", f"{place}/crates", ignore=shutil.ignore_patterns("must-fail"))
+        # What checks have kept in the crates' folders out/, rt takes from there.
+        shutil.copytree(f"{root}/crates", f"{place}/crates", ignore=shutil.ignore_patterns("must-fail", "out"))
         shutil.copy(f"{root}/crates.txt", f"{place}/crates.txt")
-        for part in ("stamp", "rlib"):
-            if os.path.isdir(f"{root}/target/{part}"):
-                shutil.copytree(f"{root}/target/{part}", f"{place}/target/{part}")
 
     def unedited(self, crates):
         """Why these crates do not pass as they are; nothing where they do."""
-        passed, errors, said = said_by(["rt", "check"] + crates, self.tree, "rt: ok")
+        passed, errors, said = self.proved(crates)
         return "" if passed else (errors + [said])[0]
+
+    def proved(self, crates):
+        """Whether these crates are proved, each with all that it stands on; the errors of the first that is not; and the end of what was said."""
+        passed, errors, said = True, [], ""
+        for crate in crates:
+            passed, errors, said = said_by("check", f"{self.tree}/crates/{crate}")
+            if not passed:
+                break
+        return passed, errors, said
 
     def tried(self, wrong, name, new):
         """survives, refused, false, text, compiles-not or NO VERDICT, and why, of an edit of a file of specs/: `wrong` of the list, or None."""
@@ -541,7 +541,7 @@ class Proofs:
             return found
 
     def checked(self, asked, false):
-        passed, errors, said = said_by(["rt", "check"] + asked, self.tree, "rt: ok")
+        passed, errors, said = self.proved(asked)
         if passed:
             return "survives", ""
         if not errors:

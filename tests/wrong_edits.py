@@ -6,8 +6,8 @@
 K edits (200) are drawn by the seed (1), as evenly as can be over the crates with code (all of crates.txt where none is
 named), from all places of its source where a comparison can be turned, the operands of an operator exchanged, an
 operator, a number or an index changed, two arguments exchanged, a returned truth value turned, or a statement or a
-whole `if` dropped. Each is made in a copy of the repository. `rt dev CRATE` tries it over what is proved already; where
-that does not refuse it, `rt check CRATE` decides. An edit that does not compile is not counted, and another is drawn.
+whole `if` dropped. Each is made in a copy of the repository, where `rt check` tries it over what is proved already. An
+edit that does not compile is not counted, and another is drawn.
 Contracts and proofs are never edited. An edit that means the same stands in tests/wrong_edits.txt with the reason, and
 is no failure.
 A line is printed for each edit; the last line has the counts. The status is 1 where an edit that is not known to mean
@@ -91,23 +91,17 @@ def read(path):
         return file.read()
 
 
-def said_by(root, command):
-    done = subprocess.run(command, cwd=root, capture_output=True, text=True, check=False)
-    return done.returncode, (done.stdout + done.stderr).split("\n")
-
-
 def verdict(root, crate):
     """refused, compiles-not, NOT REFUSED or NO VERDICT, with the line that says why."""
-    status, said = said_by(root, ["rt", "dev", crate])
-    if status == 0:
-        status, said = said_by(root, ["rt", "check", crate])
-    if status == 0:
+    done = subprocess.run(["rt", "check"], cwd=f"{root}/crates/{crate}", capture_output=True, text=True, check=False)
+    said = (done.stdout + done.stderr).split("\n")
+    if done.returncode == 0:
         return "NOT REFUSED", ""
+    if done.returncode == 1 and any(line.startswith("logic=not-proved") for line in said):
+        return "refused", next((line for line in said if ": error" in line or line.startswith("note: ")), "not proved")
     for line in said:
-        if re.search(r"\.rt:\d+:\d+: error\[", line) and "not proved" not in line:
+        if done.returncode == 1 and re.search(r"\berror\[[\w-]+\]", line):
             return "compiles-not", line
-    if status == 1 and any(line.startswith("logic=not-proved") for line in said):
-        return "refused", next((line for line in said if "error" in line or line.startswith("note: /")), "not proved")
     return "NO VERDICT", " ".join(said)[-200:]
 
 
@@ -153,7 +147,7 @@ def main():
     arguments.add_argument("crates", nargs="*")
     given = arguments.parse_args()
     root = os.path.dirname(os.path.dirname(os.path.abspath(__file__)))
-    listed = re.findall(r"(?m)^(\w+):", read(f"{root}/crates.txt"))
+    listed = re.findall(r"(?m)^(\w+)(?: staticlib)?:", read(f"{root}/crates.txt"))
     if unknown := [c for c in given.crates if c not in listed]:
         arguments.error(f"{', '.join(unknown)}: not in crates.txt")
     with_code = [c for c in given.crates or listed if any(candidates(read(source_of(root, c)).split("\n")))]
@@ -161,7 +155,7 @@ def main():
     counts = {"refused": 0, "means the same": 0, "NOT REFUSED": 0, "NO VERDICT": 0, "compiles-not": 0}
     with tempfile.TemporaryDirectory(prefix="wrong-edits-") as copy:
         tree = f"{copy}/tree"
-        shutil.copytree(root, tree, ignore=shutil.ignore_patterns(".git", "host", "must-fail"))
+        shutil.copytree(root, tree, ignore=shutil.ignore_patterns(".git", "host", "target", "must-fail", "out"))
         for number, crate in enumerate(with_code):
             share = given.count * (number + 1) // len(with_code) - given.count * number // len(with_code)
             for what, line in tried(tree, crate, given.seed, share, same):

@@ -1,5 +1,5 @@
-//! Finds the archives that `rt staticlib c_api` and `rt staticlib dispatch` write, links
-//! them, and tells the tests their paths.
+//! Finds the archives that `rt lib` writes for the crates c_api and dispatch, links them,
+//! and tells the tests their paths.
 
 use std::env;
 use std::path::{Path, PathBuf};
@@ -8,8 +8,8 @@ use std::process::exit;
 /// Names other archives by their whole paths, as PATH names folders.
 const VARIABLE: &str = "LEGGING_ARCHIVE";
 
-/// What they are without it, in target/staticlib.
-const ARCHIVES: [&str; 2] = ["libc_api.a", "libdispatch.a"];
+/// The crates whose archives they are without it, as `rt lib` writes them.
+const CRATES: [&str; 2] = ["c_api", "dispatch"];
 
 fn main() {
     println!("cargo:rerun-if-env-changed={VARIABLE}");
@@ -26,8 +26,10 @@ fn archives() -> Vec<PathBuf> {
         Some(paths) => env::split_paths(&paths).collect(),
         None => {
             let package = env::var_os("CARGO_MANIFEST_DIR").unwrap_or_default();
-            let folder = Path::new(&package).join("../../target/staticlib");
-            ARCHIVES.map(|name| folder.join(name)).into()
+            let crates = Path::new(&package).join("../../crates");
+            CRATES
+                .map(|name| crates.join(format!("{name}/out/lib{name}.a")))
+                .into()
         }
     }
 }
@@ -37,8 +39,8 @@ fn link(archive: &Path) {
     if !archive.is_file() {
         eprintln!(
             "the archive is not there: {}\n\
-             write it with `rt staticlib c_api` or `rt staticlib dispatch` at the top of the\n\
-             repository, or name others by the variable {VARIABLE}",
+             write it with `rt lib` in the folder crates/c_api or crates/dispatch, or name\n\
+             others by the variable {VARIABLE}",
             archive.display()
         );
         exit(1);

@@ -9,46 +9,53 @@ use std::process::{Command, Output, Stdio};
 
 const PRINTED_TEXT: &str = include_str!("sessions/printed.txt");
 
-const CRATES: &str = "# crates\nrules:\nwire: rules\n\nsheet: rules wire io # a program\n\
-    short_sheets: rules\nc_api: wire\ndispatch: wire\nother: sheet\n";
+const CRATES: &str = "# crates\nrules:\nwire: rules\n\nsheet: rules wire # a program\n\
+    short_sheets: rules\nc_api staticlib: wire\ndispatch staticlib: wire\nother: sheet\n";
 
-/// Proves what crates.txt says of a program, and writes it; refuses where the file refuse is
-/// there.
+/// Proves a crate and those below it, and makes its program or archive; refuses where the file
+/// refuse is there. A program whose name stands in the file fails ends with that status.
 const RT: &str = r#"#!/bin/sh
-echo "$* jobs=${RT_JOBS:-none} room=${TMPDIR:-none}" >>calls
+me=${PWD##*/}
+cd ../..
+echo "$1 $me" >>calls
+exec 3>&1
+# Under run the check's lines come on standard error.
+[ "$1" != run ] || exec 1>&2
 prove() {
-    if [ -e "target/$1.proved" ]; then echo "rt: $1 proved (unchanged since it was last proved)"; return; fi
-    echo "logic=proved of $1"
-    echo "rt: $1 proved (1 s)"
-    : >"target/$1.proved"
+    [ ! -e "crates/$1/out/proved" ] || return 0
+    echo "rt: chose --jobs 2 for $1"
+    if [ "$1" = wire ] && [ -e refuse ]; then
+        echo 'expected a proof' >&2
+        echo 'fn wire::u16_at: not proved'
+        echo 'logic=not-proved fns=1'
+        echo 'rt: the library wire did not build, so nothing above it was checked' >&2
+        exit 1
+    fi
+    echo "logic=proved fns=1 crate $1"
+    mkdir -p "crates/$1/out"
+    : >"crates/$1/out/proved"
 }
 echo begin >>turns
 [ ! -e slow ] || sleep 1
+prove rules
+[ "$me" = short_sheets ] || prove wire
+prove "$me"
+status=0
 case $1 in
-check)
-    prove rules
-    if [ -e refuse ]; then
-        echo 'expected a proof' >&2
-        echo 'rt: wire NOT PROVED (exit 1, 3 s)'
-        echo 'rt: FAILED: wire'
-        exit 1
-    fi
-    prove wire
-    shift
-    for name in "$@"; do
-        case $name in sheet | short_sheets) ;; *) continue ;; esac
-        prove "$name"
-        mkdir -p target/bin
-        printf '#!/bin/sh\necho "%s of $(wc -c) bytes"\n' "$name" >"target/bin/$name"
-        chmod +x "target/bin/$name"
-    done
+run)
+    program=crates/$me/out/$me
+    printf '#!/bin/sh\necho "%s of $(wc -c) bytes"\n' "$me" >"$program"
+    [ ! -e fails ] || cat fails >>"$program"
+    chmod +x "$program"
+    echo "rt: running out/$me; to give it other input, run that file yourself"
+    "$program" 1>&3 || status=$?
     ;;
-staticlib)
-    mkdir -p target/staticlib
-    : >"target/staticlib/lib$2.a"
+lib)
+    : >"crates/$me/out/lib$me.a"
     ;;
 esac
 echo end >>turns
+exit "$status"
 "#;
 
 /// Writes the program of a package: venue is the tool itself.
@@ -64,10 +71,10 @@ chmod +x "$CARGO_TARGET_DIR/release/$package"
 "#;
 
 /// The programs that the scripts may use.
-const TOOLS: [&str; 28] = [
-    "awk", "bash", "cat", "chmod", "cp", "df", "dirname", "env", "find", "flock", "grep", "head",
-    "ln", "mkdir", "mktemp", "mv", "od", "readlink", "rm", "rmdir", "sed", "sh", "sleep", "sort",
-    "tail", "tr", "true", "wc",
+const TOOLS: [&str; 26] = [
+    "awk", "bash", "cat", "chmod", "cp", "dirname", "env", "find", "flock", "grep", "head", "ln",
+    "mkdir", "mktemp", "mv", "od", "readlink", "rm", "rmdir", "sed", "sh", "sleep", "sort", "tail",
+    "tr", "wc",
 ];
 
 /// A copy of bin/ with the stand-ins, gone when the test ends.
@@ -77,8 +84,18 @@ impl Tree {
     fn new(name: &str) -> Self {
         let root = std::env::temp_dir().join(format!("bin-{name}-{}", std::process::id()));
         let _ = fs::remove_dir_all(&root);
-        for folder in ["bin", "tools", "host", "crates", "elsewhere"] {
+        for folder in ["bin", "tools", "host", "elsewhere"] {
             fs::create_dir_all(root.join(folder)).unwrap();
+        }
+        for name in [
+            "rules",
+            "wire",
+            "sheet",
+            "short_sheets",
+            "c_api",
+            "dispatch",
+        ] {
+            fs::create_dir_all(root.join("crates").join(name).join("src")).unwrap();
         }
         let bin = Path::new(env!("CARGO_MANIFEST_DIR")).join("../../bin/.");
         let mut copy = Command::new("cp");
@@ -180,10 +197,10 @@ fn the_first_sheet_tells_how_long_it_takes_and_what_is_proved() {
     assert_eq!(said, expected);
     assert!(tree
         .read("target/log/bin-sheet.log")
-        .contains("logic=proved of wire\n"));
+        .contains("logic=proved fns=1 crate wire\n"));
     let again = tree.run("bin/sheet", &["session"]);
     assert_eq!(again, (0, "sheet of 6 bytes\n".to_string(), String::new()));
-    fs::remove_file(tree.path("target/wire.proved")).unwrap();
+    fs::remove_file(tree.path("crates/wire/out/proved")).unwrap();
     let (_, _, said) = tree.run("bin/sheet", &["session"]);
     assert_eq!(said, "bin/sheet: 2 of 3 crates proved: wire\n");
 }
@@ -211,22 +228,44 @@ fn on_a_terminal_what_is_proved_is_one_line() {
     assert_eq!(status, 0);
 }
 
+/// `rt ci` removes what rt made in crates/NAME/out.
 #[test]
-fn several_crates_are_proved_at_a_time() {
-    let tree = Tree::new("jobs");
-    tree.run("bin/sheet", &[]);
-    let calls = tree.read("calls");
-    let jobs = calls.split("jobs=").nth(1).unwrap();
-    assert!(("1".."5").contains(&&jobs[..1]), "{calls}");
-    let room = calls.trim_end().split("room=").nth(1).unwrap();
-    assert!(
-        room == "none" || !Path::new(room).exists(),
-        "{room} was left"
-    );
-    let mut command = tree.command(&tree.path("bin/short"));
-    let (status, printed, _) = told(command.env("RT_JOBS", "7").output().unwrap());
+fn a_program_stays_where_the_crates_lose_what_rt_made() {
+    let tree = Tree::new("kept");
+    tree.run("bin/short", &[]);
+    for name in ["rules", "short_sheets"] {
+        fs::remove_dir_all(tree.path("crates").join(name).join("out")).unwrap();
+    }
+    let (status, printed, said) = tree.run("bin/short", &[]);
     assert_eq!((status, printed.as_str()), (0, "short_sheets of 0 bytes\n"));
-    assert!(tree.read("calls").contains("check short_sheets jobs=7 "));
+    let expected = "bin/short: 1 of 2 crates proved: rules\n\
+        bin/short: 2 of 2 crates proved: short_sheets\n";
+    assert_eq!(said, expected);
+    assert_eq!(tree.read("calls"), "run short_sheets\n".repeat(2));
+}
+
+#[test]
+fn a_program_that_fails_is_told_and_not_as_refused() {
+    let tree = Tree::new("fails");
+    for (name, ends, expected) in [
+        ("says", "echo 'torn' >&2\n", "torn\n"),
+        ("both", "echo 'torn' >&2\nexit 7\n", "torn\n"),
+        (
+            "ends",
+            "exit 7\n",
+            "bin/sheet: the program ended with status 7\n",
+        ),
+    ] {
+        tree.write("fails", ends.as_bytes());
+        let (status, sheet, said) = tree.run("bin/sheet", &[]);
+        assert!(said.ends_with(expected), "{name}: {said}");
+        assert!(!said.contains("rt ended"), "{name}: {said}");
+        assert_eq!(
+            (status, sheet.as_str()),
+            (1, "sheet of 0 bytes\n"),
+            "{name}"
+        );
+    }
 }
 
 #[test]
@@ -238,7 +277,8 @@ fn what_is_refused_is_told_with_the_log() {
     let log = tree.path("target/log/bin-sheet.log");
     let log = log.canonicalize().unwrap();
     let end = format!(
-        "rt: wire NOT PROVED (exit 1, 3 s)\nrt: FAILED: wire\n\
+        "fn wire::u16_at: not proved\n\
+         rt: the library wire did not build, so nothing above it was checked\n\
          bin/sheet: rt ended with status 1; all that it said is in {}\n",
         log.display()
     );
@@ -362,7 +402,8 @@ fn scripts_name_crates_that_there_are() {
     let named = |text: &str| {
         crates
             .lines()
-            .any(|line| line.starts_with(&format!("{text}:")))
+            .filter_map(|line| line.split_once(':'))
+            .any(|(name, _)| name.split(' ').next() == Some(text))
     };
     let mut programs = Vec::new();
     for entry in fs::read_dir(top.join("bin")).unwrap() {
@@ -456,22 +497,22 @@ fn a_comparison_proves_and_builds_what_it_needs() {
         (0, "compare session --text -- a b\n"),
         "{said}"
     );
-    let calls: Vec<String> = tree
-        .read("calls")
-        .lines()
-        .map(|line| line.split(" jobs=").next().unwrap().to_string())
-        .collect();
-    let proved = ["check wire rules", "staticlib c_api", "staticlib dispatch"];
-    assert_eq!(calls, proved);
+    assert_eq!(tree.read("calls"), "lib c_api\nlib dispatch\n");
     assert!(
-        said.contains("bin/venue: 2 of 2 crates proved: wire\n"),
+        said.contains("bin/venue: 2 of 4 crates proved: wire\n"),
         "{said}"
     );
+    assert!(
+        said.contains("bin/venue: 4 of 4 crates proved: dispatch\n"),
+        "{said}"
+    );
+    // What rt makes beside the sources is no source.
+    tree.write("crates/wire/out/younger", b"");
     let (_, _, said) = tree.run("bin/venue", &["compare", "x"]);
-    assert_eq!((said.as_str(), tree.read("calls").lines().count()), ("", 3));
-    tree.write("crates/younger", b"");
+    assert_eq!((said.as_str(), tree.read("calls").lines().count()), ("", 2));
+    tree.write("crates/wire/src/younger", b"");
     tree.run("bin/venue", &["compare", "x"]);
-    assert_eq!(tree.read("calls").lines().count(), 6);
+    assert_eq!(tree.read("calls").lines().count(), 4);
 }
 
 #[test]
@@ -487,7 +528,10 @@ fn a_comparison_without_its_program_tells_how_it_is_built() {
         beside.display()
     );
     assert!(said.starts_with(&start), "{said}");
-    assert!(said.contains("\n  rt staticlib c_api &&"), "{said}");
+    assert!(
+        said.contains("\n  (cd crates/c_api && rt lib) &&"),
+        "{said}"
+    );
     assert_eq!((status, printed.as_str()), (1, ""));
     let (status, _, said) = tree.run(tool, &["compare"]);
     assert!(said.starts_with("venue compare: expected a session to compare\n"));
@@ -517,7 +561,7 @@ fn an_installation_proves_and_builds_what_is_missing() {
     assert_eq!((status, placed.lines().count()), (0, 12), "{said}");
     for expected in [
         "bin/install: proving and building the engine's archives and all that they stand on: about 7 minutes\n",
-        "bin/install: proving dispatch and writing target/staticlib/libdispatch.a\n",
+        "bin/install: proving dispatch and writing crates/dispatch/out/libdispatch.a\n",
         "bin/install: proving and building the program and all that it stands on, 3 crates, this once: about 5 minutes\n",
         "bin/install: building host/target/release/venue, this once\n",
     ] {
@@ -553,6 +597,6 @@ fn an_installation_that_is_not_proved_leaves_nothing() {
     tree.write("refuse", b"");
     let (status, placed, said) = tree.run("bin/install", &["new/prefix"]);
     assert_eq!((status, placed.as_str()), (1, ""));
-    assert!(said.contains("NOT PROVED"), "{said}");
+    assert!(said.contains(": not proved\n"), "{said}");
     assert!(!tree.path("elsewhere/new").exists());
 }

@@ -36,7 +36,7 @@ const BUILT_BY: &str = "\
 build it from the top of the repository with
   bin/venue compare SESSION
 or by hand with
-  rt staticlib c_api && rt staticlib dispatch
+  (cd crates/c_api && rt lib) && (cd crates/dispatch && rt lib)
   cargo build --release --offline --manifest-path host/Cargo.toml -p venue -p compare";
 
 /// Becomes the program compare; what comes back is a failure to.
