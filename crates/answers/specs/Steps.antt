@@ -1,8 +1,7 @@
 -- What a message leaves of the venue's slice and of the report memory.
-use Rattle.std.specs.Prelude.{◌≡◌, Bool, not, List, [], ◌∷◌, ℕ, eqb}
+use Rattle.std.specs.Prelude.{◌≡◌, Bool, not, List, [], ◌∷◌, ℕ, eqb, if◌then◌else◌}
 use Rattle.rules.specs.declared.Venue.{Venue}
 use Rattle.rules.specs.declared.Message.{Message}
-use Rattle.rules.specs.Base.{if◌then◌else◌}
 use Rattle.rules.specs.Records.{answer}
 use Rattle.rules.specs.Effects.{nothing}
 use Rattle.rules.specs.Places.{close_gaps}

@@ -1,8 +1,7 @@
 // The leaf functions on numbers, over the types and definitions of rules.
 #![tactic(auto)]
 
-ghost use Rattle.std.specs.Prelude.{◌≡◌, ℕ, min, ◌+◌, ◌≤◌, ◌-◌, eqb, ℤ, pos, nat_abs, ◌+ℤ◌};
-ghost use Rattle.rules.specs.Base.{if◌then◌else◌};
+ghost use Rattle.std.specs.Prelude.{◌≡◌, ℕ, min, ◌+◌, ◌≤◌, ◌-◌, eqb, ℤ, pos, nat_abs, ◌+ℤ◌, if◌then◌else◌};
 ghost use Rattle.rules.specs.Words.{opposite, sign_times, place_of, fresh_venue, sell, is_price, is_quantity, is_ratio, one_to_one};
 ghost use Rattle.rules.specs.Settings.{base_figure, is_increment};
 ghost use Rattle.rules.specs.Messages.{length_of, message_form};

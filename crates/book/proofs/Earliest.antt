@@ -1,4 +1,5 @@
 -- Ids rise with the places, so the earliest order is the first of the list: who is taken and who is met first, and where an id stands.
+use Rattle.std.specs.Prelude.{if◌then◌else◌}
 use mathlib.Core.Path.{◌≡◌, refl, sym, ap, ◌∙◌}
 use mathlib.Core.Bool.{Bool, true, false, ◌&&◌, ◌||◌, true≢false}
 use mathlib.Core.List.{List, [], ◌∷◌}
@@ -10,7 +11,7 @@ use borrow.Author.Tests.{eqb-true, eq-eqb, ne_eqb, le-ltb}
 use lib.Dec.{eqb}
 use lib.ListN.{length, get_or}
 use Rattle.rules.specs.declared.Regular.{Regular}
-use Rattle.rules.specs.Base.{if◌then◌else◌, held, Choice, nobody, picked, ranked, first_from, first, place_where}
+use Rattle.rules.specs.Base.{held, Choice, nobody, picked, ranked, first_from, first, place_where}
 use Rattle.rules.specs.Words.{opposite, no_regular, regular_at, earlier, is_regular_of}
 use Rattle.rules.specs.Complex.{rests_regular, regular_place}
 use Rattle.rules.specs.Prices.{better, reaches, rests_at, shown_size, shows_at, shows_for, best_in}

@@ -1,4 +1,5 @@
 -- Laws of a search for the first place that passes a test, among the places in use.
+use Rattle.std.specs.Prelude.{if◌then◌else◌}
 use mathlib.Core.Path.{◌≡◌, refl, ap, ◌∙◌}
 use mathlib.Core.Bool.{Bool, true, false}
 use mathlib.Core.List.{List, [], ◌∷◌}
@@ -6,7 +7,7 @@ use Prim.Native.Nat.{ℕ, zero, suc, ◌+◌, ◌≤◌, ◌<◌}
 use native.Mathlib.Omega.{arith}
 use native.Mathlib.Decide.{dec_lt, ℕ_discrete}
 use lib.ListN.{length, get_or}
-use Rattle.rules.specs.Base.{if◌then◌else◌, place_where}
+use Rattle.rules.specs.Base.{place_where}
 use Rattle.rules.specs.Words.{no_regular, no_complex, is_regular_of, is_complex_of}
 use Rattle.places.specs.Layout.{in_use}
 use Rattle.places.proofs.Tables.{used-at, used-free, used-length}

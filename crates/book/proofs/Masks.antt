@@ -1,4 +1,5 @@
 -- The ones of the mask of the legging places.
+use Rattle.std.specs.Prelude.{if◌then◌else◌}
 use mathlib.Core.Path.{◌≡◌, refl, ap, ap₂, ◌∙◌}
 use mathlib.Core.Bool.{Bool, true, false}
 use mathlib.Core.List.{List, [], ◌∷◌}
@@ -6,7 +7,7 @@ use Prim.Native.Nat.{ℕ, ◌+◌, ◌*◌, ◌^◌}
 use native.Mathlib.Omega.{arith}
 use lib.Count.{ones, ones_in, ones_cat}
 use Rattle.rules.specs.declared.Legging.{Legging}
-use Rattle.rules.specs.Base.{if◌then◌else◌, held}
+use Rattle.rules.specs.Base.{held}
 use Rattle.rules.specs.Step.{mask, filled}
 use Rattle.places.specs.Layout.{bit_of}
 use Rattle.places.proofs.Masks.{bit_le}

@@ -1,4 +1,5 @@
 -- Where the best price of the other side is not reached, nobody is met: every resting order has a price and shows some size.
+use Rattle.std.specs.Prelude.{if◌then◌else◌}
 use mathlib.Core.Path.{◌≡◌, refl, sym, ◌∙◌}
 use mathlib.Core.Bool.{true, false, not, ◌&&◌, ◌||◌, true≢false}
 use mathlib.Core.List.{List}
@@ -9,7 +10,7 @@ use borrow.Author.Tests.{leb-true, lt-ltb, le-leb, eq-eqb, ne_eqb}
 use lib.Dec.{ltb, leb, eqb}
 use lib.ListN.{get_or}
 use Rattle.rules.specs.declared.Regular.{Regular}
-use Rattle.rules.specs.Base.{if◌then◌else◌, held, Choice, nobody, picked, first}
+use Rattle.rules.specs.Base.{held, Choice, nobody, picked, first}
 use Rattle.rules.specs.Words.{opposite, no_regular}
 use Rattle.rules.specs.Prices.{better, rests_at, reaches, shown_size, best_in}
 use Rattle.rules.specs.Order.{is_met, price_then_id}

@@ -1,8 +1,8 @@
 -- What a scan of the places in use picks or finds.
-use Rattle.std.specs.Prelude.{ℕ}
+use Rattle.std.specs.Prelude.{ℕ, if◌then◌else◌}
 use Rattle.rules.specs.declared.Regular.{Regular}
 use Rattle.rules.specs.declared.Venue.{Venue}
-use Rattle.rules.specs.Base.{if◌then◌else◌, Choice, nobody, picked}
+use Rattle.rules.specs.Base.{Choice, nobody, picked}
 use Rattle.rules.specs.Complex.{regular_place, complex_place, rests_regular, rests_complex}
 use Rattle.book.specs.declared.Found.{Found}
 use Rattle.book.specs.declared.Found.TheVariants as found

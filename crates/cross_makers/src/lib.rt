@@ -1,8 +1,8 @@
 // Complex orders with one another: who crosses with whom, and who first.
-ghost use Rattle.std.specs.Prelude.{◌≡◌, ◌&&◌, ◌||◌, ◌≤◌, ◌<◌, eqb, ℤ, pos, nat_abs, neg_ℤ, ◌+ℤ◌};
+ghost use Rattle.std.specs.Prelude.{◌≡◌, ◌&&◌, ◌||◌, ◌≤◌, ◌<◌, eqb, ℤ, pos, nat_abs, neg_ℤ, ◌+ℤ◌, if◌then◌else◌};
 ghost use Rattle.std.specs.Int.Signed.{le_z};
 ghost use Rattle.rules.specs.declared.Venue.{Venue};
-ghost use Rattle.rules.specs.Base.{if◌then◌else◌, ranked, first};
+ghost use Rattle.rules.specs.Base.{ranked, first};
 ghost use Rattle.rules.specs.Words.{opposite};
 ghost use Rattle.rules.specs.Complex.{reversed, respects_legs, crosses, limit_then_id, cross};
 ghost use Rattle.places.specs.Layout.{venue_of};

@@ -1,7 +1,7 @@
 // Complex orders with one another: the cross, and the touch of legging orders.
-ghost use Rattle.std.specs.Prelude.{◌≡◌, pos};
+ghost use Rattle.std.specs.Prelude.{◌≡◌, pos, if◌then◌else◌};
 ghost use Rattle.rules.specs.declared.Cause.TheVariants.{Touched, NoUnit};
-ghost use Rattle.rules.specs.Base.{if◌then◌else◌, first};
+ghost use Rattle.rules.specs.Base.{first};
 ghost use Rattle.rules.specs.Words.{complex_at};
 ghost use Rattle.rules.specs.Effects.{repeat};
 ghost use Rattle.rules.specs.Complex.{crosses, cross, cross_turn, touches, fills_unit, touch};

@@ -1,4 +1,5 @@
 -- An accepted order is given its place: the invariant holds with it, its id is its own, all of it is open, and the other ids are as they were.
+use Rattle.std.specs.Prelude.{if◌then◌else◌}
 use mathlib.Core.Path.{◌∙◌, ◌≡◌, ap, refl, subst, sym}
 use mathlib.Core.Bool.{false, true}
 use mathlib.Core.Logic.{◌≢◌}
@@ -13,7 +14,7 @@ use Rattle.rules.specs.declared.Legging.{Legging}
 use Rattle.rules.specs.declared.Regular.{Regular}
 use Rattle.rules.specs.declared.Venue.{Venue}
 use Rattle.rules.specs.declared.Verdict.TheVariants.{Stands}
-use Rattle.rules.specs.Base.{held, if◌then◌else◌}
+use Rattle.rules.specs.Base.{held}
 use Rattle.rules.specs.Words.{no_complex, no_regular, opposite, place_of, with_complex, with_last, with_regular}
 use Rattle.rules.specs.Standing.{other_leg, other_size, pairs, parent_of, verdict, verdict_of}
 use Rattle.rules.specs.Sound.{apart}

@@ -1,4 +1,5 @@
 -- Calls with a message or a list each agree with a run, message by message; and a call reads one message.
+use Rattle.std.specs.Prelude.{if◌then◌else◌}
 use mathlib.Core.Path.{◌∙◌, ◌≡◌, ap, refl, subst, sym}
 use mathlib.Core.Logic.{◌≢◌}
 use mathlib.Core.Bool.{Bool, false, true, true≢false}
@@ -12,7 +13,6 @@ use lib.ListN.{drop, length, length-append, length-drop, length-take, take}
 use lib.Seq.{drop-append-le, length-take-le, take_all, take-append_seam}
 use borrow.Author.Tests.{eqb-false, eqb-true, lt-ltb, ne_eqb}
 use Rattle.rules.specs.declared.Venue.{Venue}
-use Rattle.rules.specs.Base.{if◌then◌else◌}
 use Rattle.rules.specs.Bytes.{length_field}
 use Rattle.rules.specs.Records.{encode_all, sheet}
 use Rattle.rules.specs.Effects.{Effect}

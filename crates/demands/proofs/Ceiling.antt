@@ -1,5 +1,6 @@
 -- The ceiling: of each series the records of any 256 consecutive messages have at most 20 of 67. What the venue counts are the last 20; the induction over
 -- calls has that of messages after the oldest of them nothing is missing.
+use Rattle.std.specs.Prelude.{if◌then◌else◌}
 use mathlib.Core.Path.{◌∙◌, ◌≡◌, ap, refl, subst, sym}
 use mathlib.Core.Bool.{Bool, ◌&&◌, ◌||◌, false, not, true, true≢false}
 use mathlib.Core.List.{List, [], ◌++◌, ◌∷◌}
@@ -9,7 +10,7 @@ use native.Mathlib.Omega.{arith}
 use lib.Dec.{eqb, leb}
 use lib.ListN.{get_or, length}
 use borrow.Author.Tests.{leb-true}
-use Rattle.rules.specs.Base.{held, if◌then◌else◌}
+use Rattle.rules.specs.Base.{held}
 use Rattle.rules.specs.Words.{within}
 use Rattle.rules.specs.Records.{ForAll, FourBytes, Report, answer, cancelled, crossed, generated, looked, pair, removed, trade}
 use Rattle.rules.specs.Generation.{generations_of, one_more, under_ceiling}

@@ -1,4 +1,5 @@
 -- Every cross respects the legs: of one message, and over a list of calls.
+use Rattle.std.specs.Prelude.{if◌then◌else◌}
 use mathlib.Core.Path.{◌∙◌, ◌≡◌, ap, refl, sym}
 use mathlib.Core.Bool.{Bool, true, false}
 use mathlib.Core.List.{List, [], ◌∷◌, ◌++◌, append_assoc, append-nil}
@@ -8,7 +9,6 @@ use lib.IntN.{neg_ℤ}
 use Rattle.rules.specs.declared.Message.{Message}
 use Rattle.rules.specs.declared.Message.TheVariants.{Order, TwoLeg, Cancel, Away, Status, Sweep, Increment, Percent, LimitedSweep}
 use Rattle.rules.specs.declared.Venue.{Venue}
-use Rattle.rules.specs.Base.{if◌then◌else◌}
 use Rattle.rules.specs.Words.{complex_at, fresh_venue}
 use Rattle.rules.specs.Messages.{message_of}
 use Rattle.rules.specs.Records.{ForAll, Report, FourBytes}

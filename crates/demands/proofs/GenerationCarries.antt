@@ -1,4 +1,5 @@
 -- Generation and sweeps carry the invariant and leave every legging order standing. `Stood v e`: the effect e upon v does both.
+use Rattle.std.specs.Prelude.{if◌then◌else◌}
 use mathlib.Core.Path.{◌∙◌, ◌≡◌, ap, refl, subst, sym}
 use mathlib.Core.Bool.{Bool, ◌&&◌, false, true}
 use mathlib.Core.Logic.{◌≢◌, inl, inr}
@@ -14,7 +15,7 @@ use Rattle.rules.specs.declared.Complex.{Complex}
 use Rattle.rules.specs.declared.Legging.{Legging}
 use Rattle.rules.specs.declared.Venue.{Venue}
 use Rattle.rules.specs.declared.Verdict.{Verdict}
-use Rattle.rules.specs.Base.{held, if◌then◌else◌}
+use Rattle.rules.specs.Base.{held}
 use Rattle.rules.specs.Words.{complex_at, no_complex, no_legging, one_to_one, opposite, place_of, with_generations, with_legging, with_reached}
 use Rattle.rules.specs.Bytes.{i32}
 use Rattle.rules.specs.Records.{generated, looked}

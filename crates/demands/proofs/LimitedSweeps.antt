@@ -1,4 +1,5 @@
 -- What a limited sweep looks at, by ids; what each message leaves of the id reached; and of messages one after another the turns of two orders.
+use Rattle.std.specs.Prelude.{if◌then◌else◌}
 use mathlib.Core.Path.{◌∙◌, ◌≡◌, ap, refl, subst, sym}
 use mathlib.Core.Bool.{Bool, ◌&&◌, false, not, true}
 use mathlib.Core.Logic.{◌≢◌, ◌⊎◌, inl, inr, ⊎_swap}
@@ -15,7 +16,7 @@ use Rattle.rules.specs.declared.Complex.{Complex}
 use Rattle.rules.specs.declared.Message.{Message}
 use Rattle.rules.specs.declared.Message.TheVariants.{Away, Cancel, Increment, LimitedSweep, Order, Percent, Status, Sweep, TwoLeg}
 use Rattle.rules.specs.declared.Venue.{Venue}
-use Rattle.rules.specs.Base.{held, if◌then◌else◌, keep}
+use Rattle.rules.specs.Base.{held, keep}
 use Rattle.rules.specs.Words.{complex_at, is_id, no_complex, with_complex, with_editions, with_generations, with_last, with_legging, with_reached, with_regular, with_series, within}
 use Rattle.rules.specs.Settings.{enter_edition}
 use Rattle.rules.specs.Messages.{message_form, message_of}

@@ -1,5 +1,6 @@
 -- The trades of an order that arrives, at one price: shown size by id, then reserve by id, then the legging order. From turn to turn, all that is left at that
 -- price comes after what was traded.
+use Rattle.std.specs.Prelude.{if◌then◌else◌}
 use mathlib.Core.Path.{◌∙◌, ◌≡◌, ap, refl, subst, sym}
 use mathlib.Core.Bool.{Bool, false, not, true, true≢false}
 use mathlib.Core.Logic.{◌≢◌}
@@ -20,7 +21,7 @@ use Rattle.rules.specs.declared.Message.{Message}
 use Rattle.rules.specs.declared.Message.TheVariants.{Order}
 use Rattle.rules.specs.declared.Regular.{Regular}
 use Rattle.rules.specs.declared.Venue.{Venue}
-use Rattle.rules.specs.Base.{Choice, first, held, if◌then◌else◌, nobody, picked}
+use Rattle.rules.specs.Base.{Choice, first, held, nobody, picked}
 use Rattle.rules.specs.Words.{legging_at, no_regular, opposite, place_of, regular_at, with_last, with_regular}
 use Rattle.rules.specs.Messages.{message_of}
 use Rattle.rules.specs.Records.{Report, pair, trade}

@@ -1,4 +1,5 @@
 -- Going round ids in rising order passes none of them over. So of two that are there each time, each comes once before the other comes again.
+use Rattle.std.specs.Prelude.{if◌then◌else◌}
 use mathlib.Core.Path.{◌∙◌, ◌≡◌, ap, refl, subst, sym}
 use mathlib.Core.Bool.{Bool, false, not, true, true≢false}
 use mathlib.Core.Logic.{inl, inr}
@@ -10,7 +11,7 @@ use native.Mathlib.Omega.{arith}
 use lib.Dec.{ltb}
 use lib.ListN.{take}
 use borrow.Author.Tests.{ltb-false, ltb-true}
-use Rattle.rules.specs.Base.{if◌then◌else◌, keep}
+use Rattle.rules.specs.Base.{keep}
 use Rattle.demands.specs.LimitedSweeps.{InTurn, Rises, last_of, none, other, round, turn}
 
 -- By turns ------------------------------------------------------------------------------------

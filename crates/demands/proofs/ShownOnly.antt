@@ -1,5 +1,6 @@
 -- "A complex order takes shown size only": what complex orders take from the orders of an id, and what these show after it, is no more than they showed
 -- before. So for every effect up to settling, upon any venue; from there on nothing is traded.
+use Rattle.std.specs.Prelude.{if◌then◌else◌}
 use mathlib.Core.Path.{◌∙◌, ◌≡◌, ap, refl, subst}
 use mathlib.Core.Bool.{Bool, ◌&&◌, false, not, true}
 use mathlib.Core.Logic.{◌≢◌}
@@ -20,7 +21,7 @@ use Rattle.rules.specs.declared.Message.TheVariants.{Away, Cancel, Increment, Li
 use Rattle.rules.specs.declared.Regular.{Regular}
 use Rattle.rules.specs.declared.Venue.{Venue}
 use Rattle.rules.specs.declared.Verdict.{Verdict}
-use Rattle.rules.specs.Base.{held, if◌then◌else◌}
+use Rattle.rules.specs.Base.{held}
 use Rattle.rules.specs.Words.{complex_at, no_regular, regular_at, with_complex, with_last, with_legging, with_reached, with_regular}
 use Rattle.rules.specs.Messages.{message_of}
 use Rattle.rules.specs.Records.{Report, cancelled, crossed, generated, looked, pair, trade}

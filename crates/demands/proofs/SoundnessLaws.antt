@@ -1,4 +1,5 @@
 -- Soundness as tests, and place by place: each gives the other.
+use Rattle.std.specs.Prelude.{if◌then◌else◌}
 use mathlib.Core.Path.{◌∙◌, ◌≡◌, ap, refl, subst, sym}
 use mathlib.Core.Bool.{Bool, ◌&&◌, ◌||◌, false, false≢true, not, true, true≢false}
 use mathlib.Core.List.{List, [], ◌∷◌}
@@ -14,7 +15,7 @@ use Rattle.rules.specs.declared.Legging.{Legging}
 use Rattle.rules.specs.declared.Regular.{Regular}
 use Rattle.rules.specs.declared.Venue.{Venue}
 use Rattle.rules.specs.declared.Verdict.TheVariants.{Stands}
-use Rattle.rules.specs.Base.{all, held, if◌then◌else◌}
+use Rattle.rules.specs.Base.{all, held}
 use Rattle.rules.specs.Words.{is_away, is_id, is_price, is_quantity, is_status, no_complex, no_edition, no_legging, no_regular, not_listed, one_to_one, within}
 use Rattle.rules.specs.Standing.{find_complex, has_leg, parent_of, stands, verdict}
 use Rattle.rules.specs.Complex.{rests_complex}

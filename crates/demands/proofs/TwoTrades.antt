@@ -1,5 +1,6 @@
 -- An order that arrives trades with each order that rests at most twice: of what it shows, and when all of that is gone of its reserve. Of one that rests,
 -- what has been traded so far and what is left of it, turn by turn.
+use Rattle.std.specs.Prelude.{if◌then◌else◌}
 use mathlib.Core.Path.{◌∙◌, ◌≡◌, ap, refl, subst, sym}
 use mathlib.Core.Bool.{Bool, false, true, true≢false}
 use mathlib.Core.Logic.{◌≢◌}
@@ -20,7 +21,7 @@ use Rattle.rules.specs.declared.Message.{Message}
 use Rattle.rules.specs.declared.Message.TheVariants.{Order}
 use Rattle.rules.specs.declared.Regular.{Regular}
 use Rattle.rules.specs.declared.Venue.{Venue}
-use Rattle.rules.specs.Base.{held, if◌then◌else◌}
+use Rattle.rules.specs.Base.{held}
 use Rattle.rules.specs.Words.{no_regular, opposite, place_of, regular_at, with_last, with_regular}
 use Rattle.rules.specs.Messages.{message_of}
 use Rattle.rules.specs.Records.{Report, pair, trade}

@@ -1,7 +1,6 @@
 -- The calls agree: what a run does, calls with a message or a list each do, one after another, given the same messages.
-use Rattle.std.specs.Prelude.{◌≡◌, ◌≢◌, Bool, false, true, List, [], ◌∷◌, ◌++◌, ℕ, zero, suc, ◌+◌, ◌-◌, ◌*◌, ◌≤◌, eqb, length, take, drop}
+use Rattle.std.specs.Prelude.{◌≡◌, ◌≢◌, Bool, false, true, List, [], ◌∷◌, ◌++◌, ℕ, zero, suc, ◌+◌, ◌-◌, ◌*◌, ◌≤◌, eqb, length, take, drop, if◌then◌else◌}
 use Rattle.rules.specs.declared.Venue.{Venue}
-use Rattle.rules.specs.Base.{if◌then◌else◌}
 use Rattle.rules.specs.Words.{fresh_venue}
 use Rattle.rules.specs.Bytes.{length_field}
 use Rattle.rules.specs.Calls.{Call, one, run, run_upon}

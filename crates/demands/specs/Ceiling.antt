@@ -1,7 +1,6 @@
 -- Document 02 (m): "Per series at most 20 are generated in any 256 consecutive messages", in terms of what callers see: a record is of
 -- the message whose 64 is the last before it.
-use Rattle.std.specs.Prelude.{Bool, ◌&&◌, List, [], ◌∷◌, ℕ, suc, ◌+◌, ◌<◌, ◌≤◌, eqb}
-use Rattle.rules.specs.Base.{if◌then◌else◌}
+use Rattle.std.specs.Prelude.{Bool, ◌&&◌, List, [], ◌∷◌, ℕ, suc, ◌+◌, ◌<◌, ◌≤◌, eqb, if◌then◌else◌}
 use Rattle.rules.specs.Words.{within}
 use Rattle.rules.specs.Records.{Report, answer, cancelled, crossed, generated, looked, pair, removed, trade}
 use Rattle.demands.specs.Demand.{Later, Opening, calls, opening}

@@ -1,12 +1,12 @@
 -- Request (m), of kind 11: "a sweep limited to n resting orders …, starting after the last id that a kind 11 looked at and going round by
 -- id", and its record 72. Of one message upon a sound venue; and of messages one after another through which two orders stay in rest:
 -- limited sweeps look at them in turn, so every order that stays in rest is looked at once in a round.
-use Rattle.std.specs.Prelude.{◌≡◌, not, ◌≢◌, ◌⊎◌, ℕ, suc, ◌+◌, ◌<◌, min, eqb, ltb, length, take}
+use Rattle.std.specs.Prelude.{◌≡◌, not, ◌≢◌, ◌⊎◌, ℕ, suc, ◌+◌, ◌<◌, min, eqb, ltb, length, take, if◌then◌else◌}
 use mathlib.Core.List.{List, Memᴰ, [], ◌++◌, ◌∷◌, map}
 use Rattle.rules.specs.declared.Message.{Message}
 use Rattle.rules.specs.declared.Message.TheVariants.{Away, Cancel, Increment, LimitedSweep, Order, Percent, Status, Sweep, TwoLeg}
 use Rattle.rules.specs.declared.Venue.{Venue}
-use Rattle.rules.specs.Base.{held, if◌then◌else◌, keep}
+use Rattle.rules.specs.Base.{held, keep}
 use Rattle.rules.specs.Words.{complex_at}
 use Rattle.rules.specs.Messages.{message_of}
 use Rattle.rules.specs.Records.{ForAll, Report, answer, cancelled, crossed, generated, looked, pair, removed, trade}

@@ -1,5 +1,5 @@
 -- Request (a), "Which orders go is unaffected": the rank of causes that it brings, beside the rank of document 01.
-use Rattle.std.specs.Prelude.{◌≡◌, Bool, not, ◌&&◌, map, ℕ, ◌/◌, ◌%◌, eqb}
+use Rattle.std.specs.Prelude.{◌≡◌, Bool, not, ◌&&◌, map, ℕ, ◌/◌, ◌%◌, eqb, if◌then◌else◌}
 use Rattle.rules.specs.declared.Cause.{Cause}
 use Rattle.rules.specs.declared.Cause.TheVariants.{NotOpen, OutOfBand, Unpaired, Worse}
 use Rattle.rules.specs.declared.Complex.{Complex}
@@ -7,7 +7,7 @@ use Rattle.rules.specs.declared.Legging.{Legging}
 use Rattle.rules.specs.declared.Venue.{Venue}
 use Rattle.rules.specs.declared.Verdict.{Verdict}
 use Rattle.rules.specs.declared.Verdict.TheVariants.{Fails, Stands}
-use Rattle.rules.specs.Base.{held, if◌then◌else◌}
+use Rattle.rules.specs.Base.{held}
 use Rattle.rules.specs.Records.{Report, cause_number, answer, cancelled, crossed, generated, looked, pair, removed, trade}
 use Rattle.rules.specs.Effects.{Effect}
 use Rattle.rules.specs.Prices.{in_band}

@@ -1,11 +1,11 @@
 -- Request (e), "Reserve size": what the trades of one message take from an order that rests, by what it showed when the message began,
 -- and in which order.
-use Rattle.std.specs.Prelude.{◌≡◌, not, true, ◌&&◌, List, [], ◌++◌, ◌∷◌, ◌≢◌, ◌≤◌, suc, ℕ, eqb}
+use Rattle.std.specs.Prelude.{◌≡◌, not, true, ◌&&◌, List, [], ◌++◌, ◌∷◌, ◌≢◌, ◌≤◌, suc, ℕ, eqb, if◌then◌else◌}
 use Rattle.rules.specs.declared.Message.{Message}
 use Rattle.rules.specs.declared.Message.TheVariants.{Away, Cancel, Increment, LimitedSweep, Order, Percent, Status, Sweep, TwoLeg}
 use Rattle.rules.specs.declared.Regular.{Regular}
 use Rattle.rules.specs.declared.Venue.{Venue}
-use Rattle.rules.specs.Base.{held, if◌then◌else◌}
+use Rattle.rules.specs.Base.{held}
 use Rattle.rules.specs.Words.{legging_at, opposite, regular_at}
 use Rattle.rules.specs.Messages.{message_of}
 use Rattle.rules.specs.Records.{Report, answer, cancelled, crossed, generated, looked, pair, removed, trade}

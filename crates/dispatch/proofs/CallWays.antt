@@ -1,4 +1,5 @@
 -- An arrival and a turn upon a memory, by the ways in which each ends.
+use Rattle.std.specs.Prelude.{if◌then◌else◌}
 use mathlib.Core.Path.{◌≡◌, refl, sym, ap, ap₂, ◌∙◌}
 use mathlib.Core.Bool.{Bool, true, false, true≢false}
 use mathlib.Core.Logic.{◌≢◌, inl, inr}
@@ -11,7 +12,6 @@ use lib.Seq.{get_or-take, get_or-drop}
 use borrow.Author.Tests.{eq-eqb, ne_eqb, eqb-true}
 use borrow.Rule.Slice.PartMut.{put_mid}
 use Rattle.rules.specs.declared.Returned.{Returned}
-use Rattle.rules.specs.Base.{if◌then◌else◌}
 use Rattle.rules.specs.Bytes.{u8_at, u32_at}
 use Rattle.rules.specs.Records.{sheet}
 use Rattle.rules.specs.Calls.{Call, called, ends}

@@ -1,6 +1,5 @@
 -- What a host sees of the calls upon the layer in its memory.
-use Rattle.std.specs.Prelude.{◌≡◌, List, [], ◌∷◌, ℕ, ◌+◌, ◌*◌, eqb, length, set}
-use Rattle.rules.specs.Base.{if◌then◌else◌}
+use Rattle.std.specs.Prelude.{◌≡◌, List, [], ◌∷◌, ℕ, ◌+◌, ◌*◌, eqb, length, set, if◌then◌else◌}
 use Rattle.rules.specs.Records.{sheet}
 use Rattle.layer.specs.Layer.{Turned, Asked, arrival, turning, fresh_layer, arrive, turn, after_all}
 use Rattle.dispatch.specs.declared.TurnReturned.{TurnReturned}

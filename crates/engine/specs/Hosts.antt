@@ -1,7 +1,6 @@
 -- What a host sees of its first venue, of one message upon the venue in its memory, of that venue's settings, and of a set of records that carries it over.
-use Rattle.std.specs.Prelude.{◌≡◌, ◌&&◌, List, [], ◌∷◌, ◌++◌, ℕ, ◌-◌, leb, eqb, length, replicate}
+use Rattle.std.specs.Prelude.{◌≡◌, ◌&&◌, List, [], ◌∷◌, ◌++◌, ℕ, ◌-◌, leb, eqb, length, replicate, if◌then◌else◌}
 use Rattle.rules.specs.declared.Settings.{Settings}
-use Rattle.rules.specs.Base.{if◌then◌else◌}
 use Rattle.rules.specs.Words.{fresh_venue}
 use Rattle.rules.specs.Bytes.{u32}
 use Rattle.rules.specs.Records.{FourBytes, sheet}

@@ -1,4 +1,5 @@
 -- Lines of one list: each is read back, and the list is handed out.
+use Rattle.std.specs.Prelude.{if◌then◌else◌}
 use mathlib.Core.Path.{◌≡◌, refl, sym, ap, ap₂, ◌∙◌}
 use mathlib.Core.Bool.{Bool, true, false, true≢false, ◌||◌}
 use mathlib.Core.List.{List, [], ◌∷◌, ◌++◌}
@@ -8,7 +9,6 @@ use lib.Dec.{eqb}
 use lib.ListN.{length, take, drop, length-append}
 use lib.Seq.{take-append_seam, drop-append_seam, drop-drop}
 use borrow.Author.Tests.{le-ltb, lt-leb, ne_eqb, eq-eqb, eqb-true}
-use Rattle.rules.specs.Base.{if◌then◌else◌}
 use Rattle.rules.specs.Bytes.{u8_at, u16_at, u32_at, length_field, bytes, u32}
 use Rattle.rules.specs.Calls.{Call, run}
 use Rattle.rules.proofs.Front.{length-same}

@@ -1,6 +1,5 @@
 -- The lines as the code has them: what is left of each from a position on, all numbers there being above the last one handed out.
-use Rattle.std.specs.Prelude.{Bool, not, ◌||◌, List, ℕ, ◌+◌, eqb, length, drop}
-use Rattle.rules.specs.Base.{if◌then◌else◌}
+use Rattle.std.specs.Prelude.{Bool, not, ◌||◌, List, ℕ, ◌+◌, eqb, length, drop, if◌then◌else◌}
 use Rattle.rules.specs.Bytes.{length_field}
 use Rattle.feed.specs.Feed.{number_of, message_in, faulty, same, Next, message, stop}
 

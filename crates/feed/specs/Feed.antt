@@ -1,7 +1,6 @@
 -- Document 02, (k), "Two lines of one feed": "The messages arrive over a main and a spare line, each message after a u32 sequence number, counted
 -- from 1 and rising on each line."
-use Rattle.std.specs.Prelude.{Bool, true, false, ◌&&◌, ◌||◌, List, [], ◌∷◌, ◌++◌, ℕ, zero, suc, ◌+◌, leb, ltb, eqb, length, take, drop}
-use Rattle.rules.specs.Base.{if◌then◌else◌}
+use Rattle.std.specs.Prelude.{Bool, true, false, ◌&&◌, ◌||◌, List, [], ◌∷◌, ◌++◌, ℕ, zero, suc, ◌+◌, leb, ltb, eqb, length, take, drop, if◌then◌else◌}
 use Rattle.rules.specs.Bytes.{u32_at, length_field}
 use Rattle.rules.specs.Refusals.{torn}
 use Rattle.rules.specs.Calls.{Call, run}

@@ -1,7 +1,6 @@
 -- Document 02, (k): "If both lines came from one list of whole messages numbered without gaps and no message was lost from both, exactly that
 -- list is handed out, up to a 10."
-use Rattle.std.specs.Prelude.{◌≡◌, Bool, true, ◌||◌, List, [], ◌∷◌, ◌++◌, map, ℕ, suc, ◌≤◌, length}
-use Rattle.rules.specs.Base.{if◌then◌else◌}
+use Rattle.std.specs.Prelude.{◌≡◌, Bool, true, ◌||◌, List, [], ◌∷◌, ◌++◌, map, ℕ, suc, ◌≤◌, length, if◌then◌else◌}
 use Rattle.rules.specs.Bytes.{u32, length_field}
 use Rattle.rules.specs.Calls.{run}
 use Rattle.feed.specs.Feed.{handed, joined, feed}

@@ -1,7 +1,6 @@
 -- Request (k), over the equations of the contracts of `feed` and of `run` (src/lib.rt).
-use Rattle.std.specs.Prelude.{◌≡◌, List, ℕ, ◌≤◌, eqb, length}
+use Rattle.std.specs.Prelude.{◌≡◌, List, ℕ, ◌≤◌, eqb, length, if◌then◌else◌}
 use Rattle.rules.specs.declared.Returned.{Returned}
-use Rattle.rules.specs.Base.{if◌then◌else◌}
 use Rattle.feed.specs.Feed.{handed, joined, feed}
 use Rattle.feed.specs.Sent.{Sent, AllWhole, NoneLost, main_line, spare_line, messages}
 use Rattle.engine.specs.Runs.{call_of}

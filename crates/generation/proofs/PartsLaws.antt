@@ -1,4 +1,5 @@
 -- Laws of generation, as the code makes it.
+use Rattle.std.specs.Prelude.{if◌then◌else◌}
 use mathlib.Core.Path.{◌≡◌, refl, sym, ap, ap₂, ◌∙◌}
 use mathlib.Core.Bool.{Bool, true, false, not, ◌&&◌, true≢false, false≢true}
 use mathlib.Core.List.{List, [], ◌∷◌}
@@ -18,7 +19,7 @@ use Rattle.rules.specs.declared.Legging.{Legging}
 use Rattle.rules.specs.declared.Leg.{Leg}
 use Rattle.rules.specs.declared.Venue.{Venue}
 use Rattle.rules.specs.declared.Cause.TheVariants.{Replaced}
-use Rattle.rules.specs.Base.{if◌then◌else◌, held}
+use Rattle.rules.specs.Base.{held}
 use Rattle.rules.specs.Words.{buy, within, opposite, sign_times, no_complex, no_legging, one_to_one, place_of, legging_at, complex_at, status_of, with_generations, with_legging}
 use Rattle.rules.specs.Settings.{figure_now, increment, percent}
 use Rattle.rules.specs.Prices.{better, best_regular, own_price, best_own, displayed_price, away, market_best, taken1, taken2, in_band}

@@ -1,10 +1,10 @@
 -- Parts of generation that a function of their own decides.
-use Rattle.std.specs.Prelude.{Bool, not, ◌&&◌, ℕ, eqb}
+use Rattle.std.specs.Prelude.{Bool, not, ◌&&◌, ℕ, eqb, if◌then◌else◌}
 use Rattle.rules.specs.declared.Complex.{Complex}
 use Rattle.rules.specs.declared.Legging.{Legging}
 use Rattle.rules.specs.declared.Venue.{Venue}
 use Rattle.rules.specs.declared.Cause.TheVariants.{Replaced}
-use Rattle.rules.specs.Base.{if◌then◌else◌, held}
+use Rattle.rules.specs.Base.{held}
 use Rattle.rules.specs.Words.{within, opposite, no_legging, one_to_one, place_of, legging_at}
 use Rattle.rules.specs.Settings.{increment}
 use Rattle.rules.specs.Prices.{best_own, displayed_price, away, in_band}

@@ -1,4 +1,5 @@
 -- The head of a lane's wait done by a call.
+use Rattle.std.specs.Prelude.{if◌then◌else◌}
 use mathlib.Core.Path.{◌≡◌, refl, sym, ap, ◌∙◌}
 use mathlib.Core.Bool.{Bool, true, false}
 use mathlib.Core.Logic.{◌≢◌}
@@ -10,7 +11,6 @@ use lib.ListN.{length, take, drop, replicate, length-append, length-drop, length
 use lib.Seq.{length-take-le, take_at, drop_at, drop-append-le, drop-drop}
 use borrow.Author.Tests.{eq-eqb}
 use Rattle.rules.specs.declared.Venue.{Venue}
-use Rattle.rules.specs.Base.{if◌then◌else◌}
 use Rattle.rules.specs.Bytes.{u8_at, u16_at, u32_at, u8, u32, bytes}
 use Rattle.rules.specs.Calls.{Call, one}
 use Rattle.rules.proofs.Reading.{byte, word}

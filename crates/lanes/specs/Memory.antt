@@ -7,9 +7,8 @@
 --         + 5   eight places of 33 bytes: a length u8 and 32 bytes; those in use come first, the head in front
 --
 -- What stands in a place after its message, and in a free place, is not read; each place that a call writes ends in zeros.
-use Rattle.std.specs.Prelude.{List, ◌++◌, ℕ, ◌+◌, ◌-◌, ◌*◌, eqb, length, set, take, drop, replicate}
+use Rattle.std.specs.Prelude.{List, ◌++◌, ℕ, ◌+◌, ◌-◌, ◌*◌, eqb, length, set, take, drop, replicate, if◌then◌else◌}
 use Rattle.rules.specs.declared.Venue.{Venue}
-use Rattle.rules.specs.Base.{if◌then◌else◌}
 use Rattle.rules.specs.Bytes.{u8_at, u32_at, u8, u32}
 use Rattle.rules.specs.Calls.{Call, one}
 use Rattle.records.specs.Seen.{pasted}

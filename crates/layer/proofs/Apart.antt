@@ -1,4 +1,5 @@
 -- Each venue's records are those of a venue served alone.
+use Rattle.std.specs.Prelude.{if◌then◌else◌}
 use mathlib.Core.Path.{◌≡◌, refl, sym, ap, ap₂, subst, ◌∙◌}
 use mathlib.Core.Logic.{◌≢◌}
 use mathlib.Core.List.{List, [], ◌∷◌, ◌++◌, append_assoc, append-nil}
@@ -7,7 +8,6 @@ use lib.Dec.{eqb}
 use lib.ListN.{length}
 use borrow.Author.Tests.{eq-eqb, ne_eqb}
 use Rattle.rules.specs.declared.Venue.{Venue}
-use Rattle.rules.specs.Base.{if◌then◌else◌}
 use Rattle.rules.specs.Records.{Report, records}
 use Rattle.rules.specs.Calls.{Call, one}
 use Rattle.demands.specs.Demand.{Holds, Later, Seen, by_message, call_upon, calls, extend, given_to, opening, parts, start}

@@ -1,4 +1,5 @@
 -- A lane put into the layer, and the venue that a turn serves.
+use Rattle.std.specs.Prelude.{if◌then◌else◌}
 use mathlib.Core.Path.{◌≡◌, refl, sym, ap, ◌∙◌}
 use mathlib.Core.Bool.{Bool, true, false, true≢false}
 use mathlib.Core.Logic.{◌≢◌}
@@ -10,7 +11,7 @@ use lib.Dec.{leb}
 use lib.ListN.{length, set}
 use lib.Seq.{get_or-set_same, get_or-set_other}
 use borrow.Author.Tests.{leb-true, ne_eqb}
-use Rattle.rules.specs.Base.{if◌then◌else◌, all}
+use Rattle.rules.specs.Base.{all}
 use Rattle.rules.proofs.Arranging.{all-at, all_in}
 use Rattle.rules.proofs.Tests.{and_l, and_r}
 use Rattle.layer.specs.Layer.{Lane, Layer, fresh_lane, lane_at, lane_sound, layer_sound, waiting, first_waiting, next, head}

@@ -1,4 +1,5 @@
 -- A venue's own messages keep their order.
+use Rattle.std.specs.Prelude.{if◌then◌else◌}
 use mathlib.Core.Path.{◌≡◌, refl, sym, ap, ◌∙◌}
 use mathlib.Core.Bool.{true, false, ◌&&◌}
 use mathlib.Core.Logic.{◌≢◌}
@@ -9,7 +10,6 @@ use native.Mathlib.Decide.{ℕ_discrete}
 use lib.Dec.{eqb}
 use lib.ListN.{length, get_or, drop, length-set}
 use borrow.Author.Tests.{eq-eqb, ne_eqb}
-use Rattle.rules.specs.Base.{if◌then◌else◌}
 use Rattle.demands.specs.Demand.{Later, by_message, given_to}
 use Rattle.layer.specs.Layer.{Lane, Layer, Arrived, Turned, Asked, arrival, turning, lane_at, with_lane, waiting, joins, arrive, next, head, head_call, idle, advanced, serve, turn, after, after_all}
 use Rattle.layer.specs.Promises.{brings, brought_by, takes, taken_by, messages_of, Ordered}

@@ -1,7 +1,7 @@
 -- Document 02, (j) "Four venues behind one line": a layer above four venues, each with a wait of messages; a call brings a message, and a turn does one.
-use Rattle.std.specs.Prelude.{Bool, not, ◌&&◌, ◌||◌, List, [], ◌∷◌, ◌++◌, ℕ, zero, suc, ◌+◌, ◌%◌, eqb, ltb, leb, length, get_or, set, drop, replicate}
+use Rattle.std.specs.Prelude.{Bool, not, ◌&&◌, ◌||◌, List, [], ◌∷◌, ◌++◌, ℕ, zero, suc, ◌+◌, ◌%◌, eqb, ltb, leb, length, get_or, set, drop, replicate, if◌then◌else◌}
 use Rattle.rules.specs.declared.Venue.{Venue}
-use Rattle.rules.specs.Base.{if◌then◌else◌, all}
+use Rattle.rules.specs.Base.{all}
 use Rattle.rules.specs.Words.{fresh_venue}
 use Rattle.rules.specs.Records.{sheet}
 use Rattle.rules.specs.Calls.{Call, one}

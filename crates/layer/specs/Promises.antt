@@ -1,6 +1,5 @@
 -- What the layer promises, over every list of calls.
-use Rattle.std.specs.Prelude.{◌≡◌, ◌≢◌, ◌⊎◌, true, false, ◌&&◌, List, [], ◌∷◌, ◌++◌, ℕ, suc, ◌≤◌, ◌<◌, eqb, length, replicate}
-use Rattle.rules.specs.Base.{if◌then◌else◌}
+use Rattle.std.specs.Prelude.{◌≡◌, ◌≢◌, ◌⊎◌, true, false, ◌&&◌, List, [], ◌∷◌, ◌++◌, ℕ, suc, ◌≤◌, ◌<◌, eqb, length, replicate, if◌then◌else◌}
 use Rattle.rules.specs.Records.{Report, records}
 use Rattle.rules.specs.Calls.{Call, one}
 use Rattle.demands.specs.Demand.{Holds, Later, Opening, Seen, alone, by_message, calls, given_to, opening}

@@ -1,4 +1,5 @@
 -- A level with one order more.
+use Rattle.std.specs.Prelude.{if◌then◌else◌}
 use mathlib.Core.Path.{◌≡◌, refl, sym, ap, ◌∙◌}
 use mathlib.Core.Bool.{Bool, true, false, ◌&&◌}
 use mathlib.Core.List.{List, [], ◌∷◌}
@@ -7,7 +8,6 @@ use native.Mathlib.Omega.{arith}
 use borrow.Author.Tests.{eq-eqb, ne_eqb, eqb-true}
 use lib.Dec.{eqb}
 use Rattle.rules.specs.declared.Regular.{Regular}
-use Rattle.rules.specs.Base.{if◌then◌else◌}
 use Rattle.rules.specs.Prices.{better, better_of, shown_size, shows_at, shows_for, best_in, size_in}
 use Rattle.rules.proofs.Better.{better-irrefl, own_of, of_other}
 use Rattle.rules.proofs.Sizes.{shown-most}

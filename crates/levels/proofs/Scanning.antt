@@ -1,11 +1,12 @@
 -- The first in rank of the places in use, by a scan that counts down.
+use Rattle.std.specs.Prelude.{if◌then◌else◌}
 use mathlib.Core.Path.{◌≡◌, refl, sym, ap, ◌∙◌}
 use mathlib.Core.Bool.{Bool, true, false}
 use mathlib.Core.List.{List, [], ◌∷◌, ◌++◌}
 use Prim.Native.Nat.{ℕ, zero, suc, ◌-◌, ◌≤◌, ◌<◌}
 use native.Mathlib.Omega.{arith}
 use lib.ListN.{replicate}
-use Rattle.rules.specs.Base.{if◌then◌else◌, Choice, nobody, ranked, first_from, first}
+use Rattle.rules.specs.Base.{Choice, nobody, ranked, first_from, first}
 use Rattle.places.specs.Layout.{upto, in_use}
 use Rattle.levels.proofs.Scans.{upto-back, upto-end}
 

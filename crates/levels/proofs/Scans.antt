@@ -1,4 +1,5 @@
 -- Scans of the places in use, down and up, and that free places add nothing to them.
+use Rattle.std.specs.Prelude.{if◌then◌else◌}
 use mathlib.Core.Path.{◌≡◌, refl, ap, ◌∙◌}
 use mathlib.Core.Bool.{true, false}
 use mathlib.Core.List.{List, [], ◌∷◌, ◌++◌}
@@ -7,7 +8,6 @@ use native.Mathlib.Omega.{arith}
 use lib.ListN.{replicate}
 use Rattle.rules.specs.declared.Regular.{Regular}
 use Rattle.rules.specs.declared.Complex.{Complex}
-use Rattle.rules.specs.Base.{if◌then◌else◌}
 use Rattle.rules.specs.Words.{no_regular, no_complex, is_complex_of}
 use Rattle.rules.specs.Prices.{better_of, shown_size, shows_at, shows_for, best_in, size_in}
 use Rattle.rules.specs.Standing.{find_complex}

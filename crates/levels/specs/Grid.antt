@@ -1,8 +1,8 @@
 -- The levels of all series and sides, how an order changes one, and the legs of a complex order.
-use Rattle.std.specs.Prelude.{◌≡◌, List, [], ℕ, ◌+◌, ◌/◌, ◌%◌, ◌<◌, eqb, get_or}
+use Rattle.std.specs.Prelude.{◌≡◌, List, [], ℕ, ◌+◌, ◌/◌, ◌%◌, ◌<◌, eqb, get_or, if◌then◌else◌}
 use Rattle.rules.specs.declared.Regular.{Regular}
 use Rattle.rules.specs.declared.Complex.{Complex}
-use Rattle.rules.specs.Base.{if◌then◌else◌, held}
+use Rattle.rules.specs.Base.{held}
 use Rattle.rules.specs.Words.{opposite}
 use Rattle.rules.specs.Prices.{better, shown_size, best_in}
 use Rattle.places.specs.declared.Level.{Level}

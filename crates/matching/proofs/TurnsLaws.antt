@@ -1,4 +1,5 @@
 -- Laws of turns: what an incoming order does next, and the loop of it.
+use Rattle.std.specs.Prelude.{if◌then◌else◌}
 use mathlib.Core.Path.{◌≡◌, refl, sym, ap, ◌∙◌}
 use mathlib.Core.Bool.{Bool, true, false, not}
 use mathlib.Core.List.{List}
@@ -9,7 +10,7 @@ use borrow.Author.Tests.{eq-eqb, ne_eqb}
 use Rattle.rules.specs.declared.Regular.{Regular}
 use Rattle.rules.specs.declared.Legging.{Legging}
 use Rattle.rules.specs.declared.Venue.{Venue}
-use Rattle.rules.specs.Base.{if◌then◌else◌, held, Choice, nobody, picked, first}
+use Rattle.rules.specs.Base.{held, Choice, nobody, picked, first}
 use Rattle.rules.specs.Words.{opposite, regular_at, legging_at}
 use Rattle.rules.specs.Prices.{own_price, better, reaches, shown_size}
 use Rattle.rules.specs.Effects.{Effect, nothing, ◌⟫◌, Turn, ended, turned, repeat}

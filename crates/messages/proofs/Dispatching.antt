@@ -1,4 +1,5 @@
 -- The message of the bytes by its kind: what `Step.step` says of it is the answer by its range.
+use Rattle.std.specs.Prelude.{if◌then◌else◌}
 use mathlib.Core.Path.{◌≡◌, refl, sym, ap, ap₂, ◌∙◌}
 use mathlib.Core.Bool.{Bool, true, false}
 use mathlib.Core.List.{List}
@@ -12,7 +13,6 @@ use Rattle.rules.specs.declared.Venue.{Venue}
 use Rattle.rules.specs.declared.Message.{Message}
 use Rattle.rules.specs.declared.Decoded.{Decoded}
 use Rattle.rules.specs.declared.Decoded.TheVariants.{Taken, Refused}
-use Rattle.rules.specs.Base.{if◌then◌else◌}
 use Rattle.rules.specs.Words.{one_to_one}
 use Rattle.rules.specs.Bytes.{u8_at, u16_at, kind_field}
 use Rattle.rules.specs.Messages.{length_of, two_leg_at, message_of}

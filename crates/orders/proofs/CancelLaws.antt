@@ -1,4 +1,5 @@
 -- The order that a cancel names.
+use Rattle.std.specs.Prelude.{if◌then◌else◌}
 use mathlib.Core.Path.{◌≡◌, refl, sym, ap, ◌∙◌}
 use mathlib.Core.Bool.{Bool, true, false, false≢true}
 use mathlib.Core.List.{List}
@@ -7,7 +8,6 @@ use native.Mathlib.Omega.{arith}
 use native.Mathlib.Decide.{dec_lt}
 use lib.ListN.{get_or}
 use Rattle.rules.specs.declared.Venue.{Venue}
-use Rattle.rules.specs.Base.{if◌then◌else◌}
 use Rattle.rules.specs.Words.{no_regular, no_complex, regular_at, complex_at, is_regular_of, is_complex_of}
 use Rattle.rules.specs.Complex.{cancel_regular, cancel_complex, regular_place, complex_place, rests_regular, rests_complex}
 use Rattle.places.specs.Layout.{in_use, regulars_used, complexes_used, regular_in, complex_in, venue_of}

@@ -1,7 +1,6 @@
 -- Parts of a message's effect that the code does apart.
-use Rattle.std.specs.Prelude.{ℕ}
+use Rattle.std.specs.Prelude.{ℕ, if◌then◌else◌}
 use Rattle.rules.specs.declared.Venue.{Venue}
-use Rattle.rules.specs.Base.{if◌then◌else◌}
 use Rattle.rules.specs.Effects.{Effect}
 use Rattle.rules.specs.Complex.{cancel_regular, cancel_complex, regular_place, complex_place, rests_regular}
 

@@ -1,4 +1,5 @@
 -- The figures in force, counted from the editions; and an edition at a place.
+use Rattle.std.specs.Prelude.{if◌then◌else◌}
 use mathlib.Core.Path.{◌≡◌, refl, sym, ap, ◌∙◌}
 use mathlib.Core.Bool.{Bool, true, false, ◌&&◌, true≢false}
 use mathlib.Core.Logic.{◌≢◌, ◌⊎◌, inl, inr}
@@ -14,7 +15,7 @@ use lib.Seq.{get_or-set_same, get_or-set_other, take-suc, take_all}
 use lib.Seq.{sets as row}
 use Rattle.rules.specs.declared.Edition.{Edition}
 use Rattle.rules.specs.declared.Venue.{Venue}
-use Rattle.rules.specs.Base.{if◌then◌else◌, held}
+use Rattle.rules.specs.Base.{held}
 use Rattle.rules.specs.Words.{no_edition, with_editions}
 use Rattle.rules.specs.Places.{holds_edition}
 use Rattle.rules.specs.Settings.{base_figure, sets, last_value, figure_now}

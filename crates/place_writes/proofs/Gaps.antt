@@ -1,4 +1,5 @@
 -- Closing gaps: of places given by a function, those read and those kept; then of rows of numbers.
+use Rattle.std.specs.Prelude.{if◌then◌else◌}
 use mathlib.Core.Path.{◌≡◌, refl, sym, ap, ap₂, ◌∙◌}
 use mathlib.Core.Bool.{Bool, true, false, not}
 use mathlib.Core.Logic.{◌⊎◌, inl, inr}
@@ -9,7 +10,7 @@ use native.Mathlib.Decide.{dec_lt}
 use native.Mathlib.Numerals.{add-one}
 use lib.ListN.{length, replicate}
 use lib.Seq.{sets}
-use Rattle.rules.specs.Base.{if◌then◌else◌, place_where}
+use Rattle.rules.specs.Base.{place_where}
 use Rattle.rules.specs.Base.{keep}
 use Rattle.rules.specs.Places.{packed}
 use Rattle.places.specs.Layout.{size, upto, in_use, Filled}

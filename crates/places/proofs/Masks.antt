@@ -1,4 +1,5 @@
 -- Laws of the mask of the legging places: one place anew, and the loop that counts it.
+use Rattle.std.specs.Prelude.{if◌then◌else◌}
 use mathlib.Core.Path.{◌≡◌, refl, sym, ap, ◌∙◌}
 use mathlib.Core.Bool.{Bool, true, false}
 use mathlib.Core.List.{List, [], ◌∷◌}
@@ -10,7 +11,7 @@ use lib.Dec.{lit<, lit≤}
 use lib.Pow.{pow_mono, shl_exact}
 use lib.ListN.{length, get_or, set}
 use Rattle.rules.specs.declared.Legging.{Legging}
-use Rattle.rules.specs.Base.{if◌then◌else◌, held}
+use Rattle.rules.specs.Base.{held}
 use Rattle.rules.specs.Words.{no_legging}
 use Rattle.rules.specs.Step.{mask}
 use Rattle.places.specs.Layout.{upto, legging_in, venue_of, bit_of, Marked}

@@ -20,7 +20,7 @@
 -- What stands in regular and complex places that are not in use means nothing. The numbers from 779 to 829, from 958 to 974 and the flag are kept
 -- beside the venue. Figures stand apart, since of those next to each other a compiler keeps the first ones, edition 0's, as a table.
 -- A fill writes an order's quantity alone: its reserve and its shown quantity are the numbers written, and no more than what is left.
-use Rattle.std.specs.Prelude.{◌≡◌, Bool, true, false, ◌⊎◌, List, [], ◌∷◌, ◌++◌, ℕ, zero, suc, ◌+◌, ◌-◌, ◌*◌, ◌/◌, ◌%◌, ◌≤◌, ◌<◌, min, ℤ, pos, nat_abs, ◌+ℤ◌, ◌-ℤ◌, eqb, length, get_or, replicate}
+use Rattle.std.specs.Prelude.{◌≡◌, Bool, true, false, ◌⊎◌, List, [], ◌∷◌, ◌++◌, ℕ, zero, suc, ◌+◌, ◌-◌, ◌*◌, ◌/◌, ◌%◌, ◌≤◌, ◌<◌, min, ℤ, pos, nat_abs, ◌+ℤ◌, ◌-ℤ◌, eqb, length, get_or, replicate, if◌then◌else◌}
 use Rattle.std.proofs.lemmas.List.Edits.{sets as row}
 use Rattle.rules.specs.declared.Regular.{Regular}
 use Rattle.rules.specs.declared.Complex.{Complex}
@@ -31,7 +31,7 @@ use Rattle.rules.specs.declared.Generations.{Generations}
 use Rattle.rules.specs.declared.Venue.{Venue}
 use Rattle.places.specs.declared.Level.{Level}
 use Rattle.rules.specs.Words.{opposite, place_of, no_regular, no_complex, with_regular, with_complex, with_editions}
-use Rattle.rules.specs.Base.{if◌then◌else◌, held, keep}
+use Rattle.rules.specs.Base.{held, keep}
 use Rattle.rules.specs.Settings.{base_figure, sets, figure_now, increment}
 use Rattle.rules.specs.Prices.{best_in, size_in}
 use Rattle.rules.specs.Places.{holds_regular, holds_complex, packed, close_gaps}

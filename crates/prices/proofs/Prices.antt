@@ -1,4 +1,5 @@
 -- What is read of a side: own, clear and market prices, the band, the increment, and the series of a complex order.
+use Rattle.std.specs.Prelude.{if◌then◌else◌}
 use mathlib.Core.Path.{◌≡◌, refl, sym, ap, ap₂, ◌∙◌}
 use mathlib.Core.Bool.{Bool, true, false}
 use mathlib.Core.List.{List}
@@ -12,7 +13,6 @@ use Rattle.rules.specs.declared.Complex.{Complex}
 use Rattle.rules.specs.declared.Legging.{Legging}
 use Rattle.rules.specs.declared.Listed.{Listed}
 use Rattle.rules.specs.declared.Venue.{Venue}
-use Rattle.rules.specs.Base.{if◌then◌else◌}
 use Rattle.rules.specs.Words.{opposite, no_complex, complex_at, legging_at, listed_at, status_of, is_complex_of}
 use Rattle.rules.specs.Prices.{better, better_of, best_regular, own_price, best_own, own_size, clear_price, away, market_best, weighed, net, taken1, taken2, near_net, in_band}
 use Rattle.rules.specs.Settings.{figure_now, percent, increment}

@@ -1,6 +1,5 @@
 -- Document 01: "Messages are taken one by one from the caller's memory". What stands at a position of a message list, by refusal 1.
-use Rattle.std.specs.Prelude.{List, ℕ, eqb, length, drop}
-use Rattle.rules.specs.Base.{if◌then◌else◌}
+use Rattle.std.specs.Prelude.{List, ℕ, eqb, length, drop, if◌then◌else◌}
 use Rattle.rules.specs.Bytes.{length_field}
 use Rattle.rules.specs.Refusals.{torn}
 use Rattle.reader.specs.declared.Head.{Head}

@@ -1,6 +1,5 @@
 -- A report memory read record by record.
-use Rattle.std.specs.Prelude.{List, [], ◌∷◌, ℕ, zero, suc, ◌+◌, min, eqb, length, drop}
-use Rattle.rules.specs.Base.{if◌then◌else◌}
+use Rattle.std.specs.Prelude.{List, [], ◌∷◌, ℕ, zero, suc, ◌+◌, min, eqb, length, drop, if◌then◌else◌}
 use Rattle.rules.specs.Bytes.{u16_at}
 use Rattle.rules.specs.Records.{Report, record_of}
 use Rattle.records.specs.declared.Next.{Next}

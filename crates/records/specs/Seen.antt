@@ -1,6 +1,5 @@
 -- A lent slice and the position up to which it is written; what writing bytes and records there leaves of both.
-use Rattle.std.specs.Prelude.{List, [], ◌∷◌, ◌++◌, ℕ, suc, ◌+◌, leb, length, take, drop}
-use Rattle.rules.specs.Base.{if◌then◌else◌}
+use Rattle.std.specs.Prelude.{List, [], ◌∷◌, ◌++◌, ℕ, suc, ◌+◌, leb, length, take, drop, if◌then◌else◌}
 use Rattle.rules.specs.Bytes.{u32}
 use Rattle.rules.specs.Records.{Report, encode}
 

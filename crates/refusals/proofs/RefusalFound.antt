@@ -1,4 +1,5 @@
 -- A message's refusal upon a venue, from the tests that the code makes.
+use Rattle.std.specs.Prelude.{if◌then◌else◌}
 use mathlib.Core.Path.{◌≡◌, refl, ap, ◌∙◌}
 use mathlib.Core.Bool.{Bool, true, false, not, ◌&&◌, ◌||◌}
 use Prim.Native.Nat.{ℕ}
@@ -8,7 +9,7 @@ use Rattle.rules.specs.declared.Complex.{Complex}
 use Rattle.rules.specs.declared.Venue.{Venue}
 use Rattle.rules.specs.declared.Message.{Message}
 use Rattle.rules.specs.declared.Message.TheVariants.{Cancel, Away, Status, Sweep, Increment, Percent, LimitedSweep}
-use Rattle.rules.specs.Base.{if◌then◌else◌, held, all}
+use Rattle.rules.specs.Base.{held, all}
 use Rattle.rules.specs.Words.{closed, status_of}
 use Rattle.rules.specs.Settings.{free_edition}
 use Rattle.rules.specs.Complex.{regular_place, complex_place, rests_regular, rests_complex}

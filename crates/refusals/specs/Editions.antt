@@ -1,7 +1,7 @@
 -- The refusals of a new edition.
-use Rattle.std.specs.Prelude.{Bool, not, ℕ, leb, ltb}
+use Rattle.std.specs.Prelude.{Bool, not, ℕ, leb, ltb, if◌then◌else◌}
 use Rattle.rules.specs.declared.Venue.{Venue}
-use Rattle.rules.specs.Base.{if◌then◌else◌, all}
+use Rattle.rules.specs.Base.{all}
 use Rattle.rules.specs.Settings.{free_edition}
 
 -- the first of 11 to 13 that a new edition meets; `used` where its figure is the increment of a series that is not idle

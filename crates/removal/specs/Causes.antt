@@ -1,11 +1,10 @@
 -- Removal place by place, and by the number of a cause for each place.
-use Rattle.std.specs.Prelude.{ℕ, zero, suc, ◌/◌, ◌%◌, eqb, get_or}
+use Rattle.std.specs.Prelude.{ℕ, zero, suc, ◌/◌, ◌%◌, eqb, get_or, if◌then◌else◌}
 use Rattle.rules.specs.declared.Legging.{Legging}
 use Rattle.rules.specs.declared.Venue.{Venue}
 use Rattle.rules.specs.declared.Cause.TheVariants.{Worse, Unpaired, Executed, Withdrawn, OutOfBand, NotOpen, Replaced, Touched, NoUnit}
 use Rattle.rules.specs.declared.Verdict.{Verdict}
 use Rattle.rules.specs.declared.Verdict.TheVariants.{Stands, Fails}
-use Rattle.rules.specs.Base.{if◌then◌else◌}
 use Rattle.rules.specs.Words.{no_legging}
 use Rattle.rules.specs.Effects.{Effect}
 use Rattle.rules.specs.Removal.{stay, goes}

@@ -1,4 +1,5 @@
 -- An order that arrives: each of its turns, a trade or a hit, tells what it does and passes nothing over.
+use Rattle.std.specs.Prelude.{if◌then◌else◌}
 use mathlib.Core.Path.{◌∙◌, ◌≡◌, ap, refl, subst, sym}
 use mathlib.Core.Bool.{Bool, false, not, true}
 use mathlib.Core.List.{List}
@@ -12,7 +13,7 @@ use Rattle.rules.specs.declared.Leg.{Leg}
 use Rattle.rules.specs.declared.Legging.{Legging}
 use Rattle.rules.specs.declared.Regular.{Regular}
 use Rattle.rules.specs.declared.Venue.{Venue}
-use Rattle.rules.specs.Base.{Choice, first, held, if◌then◌else◌, nobody, picked, place_where}
+use Rattle.rules.specs.Base.{Choice, first, held, nobody, picked, place_where}
 use Rattle.rules.specs.Words.{complex_at, is_complex_of, is_regular_of, legging_at, no_complex, no_regular, opposite, place_of, regular_at}
 use Rattle.rules.specs.Records.{trade}
 use Rattle.rules.specs.Effects.{Effect, Turn, ◌⟫◌, ended, repeat, report, turned}

@@ -1,5 +1,6 @@
 -- An order found by its id: to lessen it is to fill its place, where no other resting order has that id. And ids of resting orders are apart, whatever is filled
 -- or removed.
+use Rattle.std.specs.Prelude.{if◌then◌else◌}
 use mathlib.Core.Path.{◌∙◌, ◌≡◌, ap, refl, sym}
 use mathlib.Core.Bool.{Bool, ◌&&◌, false, true}
 use mathlib.Core.Logic.{◌≢◌}
@@ -10,7 +11,7 @@ use lib.Dec.{eqb}
 use lib.ListN.{get_or, length, set}
 use borrow.Author.Tests.{eq-eqb, eqb-true}
 use Rattle.rules.specs.declared.Venue.{Venue}
-use Rattle.rules.specs.Base.{held, if◌then◌else◌}
+use Rattle.rules.specs.Base.{held}
 use Rattle.rules.specs.Words.{complex_at, is_complex_of, is_regular_of, no_complex, no_regular, regular_at, with_complex, with_legging, with_regular}
 use Rattle.rules.specs.Removal.{remove}
 use Rattle.rules.specs.Standing.{show_again}

@@ -1,4 +1,5 @@
 -- What no trade passes over: of a regular order that meets another or hits a legging order, and of a complex order that takes at a price.
+use Rattle.std.specs.Prelude.{if◌then◌else◌}
 use mathlib.Core.Path.{◌∙◌, ◌≡◌, ap, refl, subst, sym}
 use mathlib.Core.Bool.{Bool, ◌&&◌, ◌||◌, false, false≢true, not, true, true≢false}
 use mathlib.Core.Logic.{◌≢◌}
@@ -9,7 +10,7 @@ use borrow.Author.Tests.{eqb-false, eqb-true, le-leb, leb-true, ltb-true}
 use Rattle.rules.specs.declared.Legging.{Legging}
 use Rattle.rules.specs.declared.Regular.{Regular}
 use Rattle.rules.specs.declared.Venue.{Venue}
-use Rattle.rules.specs.Base.{first, held, if◌then◌else◌, nobody, picked}
+use Rattle.rules.specs.Base.{first, held, nobody, picked}
 use Rattle.rules.specs.Words.{buy, complex_at, is_complex_of, is_regular_of, legging_at, no_regular, opposite, regular_at}
 use Rattle.rules.specs.Prices.{best_regular, better, clear_price, own_price, reaches, rests_at, shown_size, shows_at}
 use Rattle.rules.specs.Order.{is_met, legging_first, price_then_id}

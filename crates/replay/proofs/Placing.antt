@@ -1,4 +1,5 @@
 -- Effects that change legging places and generations alone: removals, and what is generated. Their records tell it upon any venue that has the same of these.
+use Rattle.std.specs.Prelude.{if◌then◌else◌}
 use mathlib.Core.Path.{◌∙◌, ◌≡◌, ap, refl, sym}
 use mathlib.Core.Bool.{Bool, ◌&&◌, false, true}
 use mathlib.Core.List.{List, [], ◌++◌, ◌∷◌, append_assoc}
@@ -11,7 +12,7 @@ use Rattle.rules.specs.declared.Legging.{Legging}
 use Rattle.rules.specs.declared.Venue.{Venue}
 use Rattle.rules.specs.declared.Verdict.{Verdict}
 use Rattle.rules.specs.declared.Verdict.TheVariants.{Fails, Stands}
-use Rattle.rules.specs.Base.{held, if◌then◌else◌}
+use Rattle.rules.specs.Base.{held}
 use Rattle.rules.specs.Words.{no_legging, place_of, with_generations, with_legging}
 use Rattle.rules.specs.Records.{generated, removed}
 use Rattle.rules.specs.Effects.{Effect, ◌⟫◌, nothing, report}

@@ -1,4 +1,5 @@
 -- Touch, and the legging in after it: where best regular prices net to the limit or less, no legging order stands on either side that is taken, since it was touched.
+use Rattle.std.specs.Prelude.{if◌then◌else◌}
 use mathlib.Core.Path.{◌∙◌, ◌≡◌, refl, subst, sym}
 use mathlib.Core.Bool.{Bool, ◌&&◌, ◌||◌, false, not, true, true≢false}
 use mathlib.Core.Logic.{◌≢◌}
@@ -17,7 +18,7 @@ use Rattle.rules.specs.declared.Legging.{Legging}
 use Rattle.rules.specs.declared.Venue.{Venue}
 use Rattle.rules.specs.declared.Verdict.{Verdict}
 use Rattle.rules.specs.declared.Verdict.TheVariants.{Fails}
-use Rattle.rules.specs.Base.{held, if◌then◌else◌}
+use Rattle.rules.specs.Base.{held}
 use Rattle.rules.specs.Words.{buy, complex_at, legging_at, no_legging, opposite, place_of, sign_times, with_legging}
 use Rattle.rules.specs.Effects.{Effect, nothing}
 use Rattle.rules.specs.Prices.{best_in, best_own, best_regular, better, net, own_price, shows_at, weighed}

@@ -1,10 +1,9 @@
 -- Request (i): "at that moment" is one that a reader of the sheet can see. From a venue, the messages done and the records written, and from nothing else,
 -- the books are kept record by record, as a reader would keep them by hand. The books are those of a venue.
-use Rattle.std.specs.Prelude.{◌≡◌, List, [], ◌∷◌, map, ℕ, eqb, drop, get_or, take}
+use Rattle.std.specs.Prelude.{◌≡◌, List, [], ◌∷◌, map, ℕ, eqb, drop, get_or, take, if◌then◌else◌}
 use Rattle.rules.specs.declared.Message.{Message}
 use Rattle.rules.specs.declared.Message.TheVariants.{Away, Cancel, Increment, LimitedSweep, Order, Percent, Status, Sweep, TwoLeg}
 use Rattle.rules.specs.declared.Venue.{Venue}
-use Rattle.rules.specs.Base.{if◌then◌else◌}
 use Rattle.rules.specs.Words.{fresh_venue, is_complex_of, is_regular_of, no_legging, place_of, with_complex, with_last, with_reached, with_regular}
 use Rattle.rules.specs.Settings.{percentage}
 use Rattle.rules.specs.Messages.{message_of}

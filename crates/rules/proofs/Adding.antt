@@ -1,4 +1,5 @@
 -- Sums over records and over places: of two lists, of removals, of one trade, of a book when an order is filled or put.
+use Rattle.std.specs.Prelude.{if◌then◌else◌}
 use mathlib.Core.Path.{◌≡◌, refl, sym}
 use mathlib.Core.Bool.{Bool, ◌&&◌, false, true}
 use mathlib.Core.Logic.{◌≢◌}
@@ -14,7 +15,7 @@ use Rattle.rules.specs.declared.Legging.{Legging}
 use Rattle.rules.specs.declared.Venue.{Venue}
 use Rattle.rules.specs.declared.Verdict.{Verdict}
 use Rattle.rules.specs.declared.Verdict.TheVariants.{Fails, Stands}
-use Rattle.rules.specs.Base.{held, if◌then◌else◌}
+use Rattle.rules.specs.Base.{held}
 use Rattle.rules.specs.Words.{complex_at, no_complex, no_regular, regular_at, with_complex, with_regular}
 use Rattle.rules.specs.Records.{Report, removed, trade}
 use Rattle.rules.specs.Effects.{Effect, ◌⟫◌}

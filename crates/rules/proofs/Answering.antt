@@ -1,4 +1,5 @@
 -- One message: its 64 comes first and is its only answer, and all its records fit.
+use Rattle.std.specs.Prelude.{if◌then◌else◌}
 use mathlib.Core.Path.{◌≡◌, refl}
 use mathlib.Core.Bool.{Bool, false, true}
 use mathlib.Core.List.{List, [], ◌∷◌}
@@ -9,7 +10,7 @@ use lib.Dec.{eqb}
 use lib.ListN.{length}
 use Rattle.rules.specs.declared.Legging.{Legging}
 use Rattle.rules.specs.declared.Venue.{Venue}
-use Rattle.rules.specs.Base.{held, if◌then◌else◌}
+use Rattle.rules.specs.Base.{held}
 use Rattle.rules.specs.Messages.{message_of}
 use Rattle.rules.specs.Records.{ForAll, Fits, Report, TwoBytes, FourBytes, OneByte, answer}
 use Rattle.rules.specs.Effects.{Effect, nothing}

@@ -1,4 +1,5 @@
 -- The arrangement test, place by place; and that closing the gaps of an arranged book changes nothing.
+use Rattle.std.specs.Prelude.{if◌then◌else◌}
 use mathlib.Core.Path.{ap, ◌≡◌, refl, sym, ◌∙◌}
 use mathlib.Core.Bool.{Bool, true, false, ◌&&◌, true≢false}
 use mathlib.Core.List.{List, [], ◌∷◌}
@@ -13,7 +14,7 @@ use Rattle.rules.specs.declared.Venue.{Venue}
 use Rattle.rules.proofs.Closing.{packed-id}
 use lib.IntN.{ℤ, pos, negsuc, nat_abs}
 use Rattle.rules.proofs.Tests.{and_l, and_r, and_in}
-use Rattle.rules.specs.Base.{if◌then◌else◌, held, all}
+use Rattle.rules.specs.Base.{held, all}
 use Rattle.rules.specs.Words.{no_regular, no_complex, with_regular, with_complex}
 use Rattle.rules.specs.Places.{holds_regular, holds_complex, blank_regular, blank_complex, arranged, close_gaps}
 use Rattle.rules.specs.Sound.{regulars_sound, complexes_sound}

@@ -1,4 +1,5 @@
 -- The order of prices of a side, and that the best price is the best.
+use Rattle.std.specs.Prelude.{if◌then◌else◌}
 use mathlib.Core.Path.{◌≡◌, refl, sym, ◌∙◌}
 use mathlib.Core.Bool.{Bool, true, false, not, ◌&&◌, ◌||◌, true≢false, false≢true}
 use mathlib.Core.List.{List, [], ◌∷◌}
@@ -10,7 +11,7 @@ use lib.ListN.{get_or}
 use borrow.Author.Tests.{ltb-true, lt-ltb}
 use Rattle.rules.specs.declared.Regular.{Regular}
 use Rattle.rules.proofs.Tests.{held-pos, pos-held, free-none}
-use Rattle.rules.specs.Base.{if◌then◌else◌, held}
+use Rattle.rules.specs.Base.{held}
 use Rattle.rules.specs.Words.{buy, no_regular}
 use Rattle.rules.specs.Prices.{better, better_of, shown_size, shows_at, best_in}
 

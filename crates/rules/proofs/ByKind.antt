@@ -1,11 +1,11 @@
 -- A message's bytes are as many as its kind's length.
+use Rattle.std.specs.Prelude.{if◌then◌else◌}
 use mathlib.Core.Path.{◌≡◌, refl}
 use mathlib.Core.Bool.{Bool, true, false}
 use mathlib.Core.List.{◌++◌}
 use lib.Dec.{eqb}
 use lib.ListN.{length}
 use Rattle.rules.specs.declared.Message.TheVariants.{Order, TwoLeg, Cancel, Away, Status, Sweep, Increment, Percent, LimitedSweep}
-use Rattle.rules.specs.Base.{if◌then◌else◌}
 use Rattle.rules.specs.Words.{one_to_one}
 use Rattle.rules.specs.Bytes.{bytes, framed, kind_field, u16_at, u32, u8, u8_at}
 use Rattle.rules.specs.Messages.{length_of, order_fields, two_leg_fields, encode_message, KindLengths}

@@ -1,4 +1,5 @@
 -- Each definition that looks at what is there, by its cases: what holds in every case holds of the definition.
+use Rattle.std.specs.Prelude.{if◌then◌else◌}
 use mathlib.Core.Path.{◌≡◌, refl}
 use mathlib.Core.Bool.{Bool, true, false, not}
 use Prim.Native.Nat.{ℕ, suc, ◌-◌, min}
@@ -6,7 +7,7 @@ use Rattle.rules.specs.declared.Regular.{Regular}
 use Rattle.rules.specs.declared.Complex.{Complex}
 use Rattle.rules.specs.declared.Legging.{Legging}
 use Rattle.rules.specs.declared.Venue.{Venue}
-use Rattle.rules.specs.Base.{if◌then◌else◌, held, Choice, nobody, picked, first}
+use Rattle.rules.specs.Base.{held, Choice, nobody, picked, first}
 use Rattle.rules.specs.Words.{opposite, no_regular, no_complex, regular_at, complex_at, legging_at, earlier}
 use Rattle.rules.specs.Effects.{Effect, nothing, ◌⟫◌, Turn, ended, turned, repeat}
 use Rattle.rules.specs.Prices.{shown_size, shows_for}
@@ -16,7 +17,7 @@ use Rattle.rules.specs.Complex.{crosses, limit_then_id, cross, cross_turn}
 use Rattle.rules.proofs.Picking.{At, Chosen, first-chosen}
 
 -- a choice
-pub if-by {ℓ m} : {A : Type m} (Q : A → Type ℓ) (b : Bool) {x y : A} → (b ≡ true → Q x) → (b ≡ false → Q y) → Q (if b then x else y)
+pub if-by {ℓ} : {A : Type 0} (Q : A → Type ℓ) (b : Bool) {x y : A} → (b ≡ true → Q x) → (b ≡ false → Q y) → Q (if b then x else y)
 if-by Q true t f = t refl
 if-by Q false t f = f refl
 

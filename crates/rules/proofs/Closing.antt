@@ -1,4 +1,5 @@
 -- Closing gaps: where each order comes from, and that no best price, size, find by id or sum changes, hence no verdict.
+use Rattle.std.specs.Prelude.{if◌then◌else◌}
 use mathlib.Core.Path.{◌≡◌, refl, sym, ap, ◌∙◌}
 use mathlib.Core.Bool.{Bool, true, false, ◌&&◌, true≢false}
 use mathlib.Core.List.{List, [], ◌∷◌, ◌++◌}
@@ -12,7 +13,7 @@ use Rattle.rules.specs.declared.Regular.{Regular}
 use Rattle.rules.specs.declared.Complex.{Complex}
 use Rattle.rules.specs.declared.Legging.{Legging}
 use Rattle.rules.specs.declared.Venue.{Venue}
-use Rattle.rules.specs.Base.{if◌then◌else◌, held, keep}
+use Rattle.rules.specs.Base.{held, keep}
 use Rattle.rules.specs.Words.{no_regular, no_complex, with_regular, with_complex, legging_at, status_of, is_complex_of}
 use Rattle.rules.specs.Settings.{figure_now, increment, percent}
 use Rattle.rules.specs.Prices.{better_of, shown_size, shows_at, best_in, size_in, best_regular, best_size, clear_price, away, market_best, taken1, taken2, in_band, shows_for}

@@ -1,5 +1,6 @@
 -- What each effect costs, at its rates: nothing, but for the trades and the pair of a hit or of an order's last round of legging in, a new order's own worth,
 -- and what is generated.
+use Rattle.std.specs.Prelude.{if◌then◌else◌}
 use mathlib.Core.Path.{◌∙◌, ◌≡◌, ap, refl, subst, sym}
 use mathlib.Core.Bool.{Bool, true, false, ◌&&◌}
 use mathlib.Core.Logic.{◌≢◌}
@@ -17,7 +18,7 @@ use Rattle.rules.specs.declared.Legging.{Legging}
 use Rattle.rules.specs.declared.Venue.{Venue}
 use Rattle.rules.specs.declared.Cause.{Cause}
 use Rattle.rules.specs.declared.Cause.TheVariants.{Executed}
-use Rattle.rules.specs.Base.{held, if◌then◌else◌}
+use Rattle.rules.specs.Base.{held}
 use Rattle.rules.specs.Words.{opposite, no_complex, one_to_one, regular_at, complex_at}
 use Rattle.rules.specs.Prices.{best_regular, best_size, size_in, net}
 use Rattle.rules.specs.Records.{Report, trade, pair, crossed}

@@ -1,5 +1,6 @@
 -- Editions under a message: none is entered but by kinds 7 and 8, which keep them rising in both numbers; every resting price stays on the
 -- increment in force; and the next message's number is above every edition's.
+use Rattle.std.specs.Prelude.{if◌then◌else◌}
 use mathlib.Core.Path.{◌∙◌, ◌≡◌, ap, refl, subst, sym}
 use mathlib.Core.Bool.{Bool, ◌&&◌, false, not, true, true≢false}
 use mathlib.Core.Logic.{◌≢◌}
@@ -15,7 +16,7 @@ use Rattle.rules.specs.declared.Message.{Message}
 use Rattle.rules.specs.declared.Message.TheVariants.{Away, Cancel, Increment, LimitedSweep, Order, Percent, Status, Sweep, TwoLeg}
 use Rattle.rules.specs.declared.Regular.{Regular}
 use Rattle.rules.specs.declared.Venue.{Venue}
-use Rattle.rules.specs.Base.{all, held, if◌then◌else◌, place_where}
+use Rattle.rules.specs.Base.{all, held, place_where}
 use Rattle.rules.specs.Words.{is_series, no_edition, no_regular, with_complex, with_editions, with_generations, with_last, with_legging, with_reached, with_regular, with_series, within}
 use Rattle.rules.specs.Settings.{base_figure, enter_edition, figure_now, free_edition, in_force, increment, is_edition, is_increment, is_percent, percentage, sets}
 use Rattle.rules.specs.Messages.{message_of}

@@ -1,5 +1,6 @@
 -- Editions: a figure's value is one of those entered or the base figure, an edition moves its own figure alone, and what is in force at the
 -- number of the message at hand is the last of all that are kept.
+use Rattle.std.specs.Prelude.{if◌then◌else◌}
 use mathlib.Core.Path.{◌∙◌, ◌≡◌, ap, refl, sym}
 use mathlib.Core.Bool.{Bool, ◌&&◌, false, true}
 use mathlib.Core.Logic.{◌≢◌}
@@ -11,7 +12,7 @@ use lib.ListN.{get_or, set}
 use borrow.Author.Tests.{eqb-true, le-leb, ltb-true, ne_eqb}
 use Rattle.rules.specs.declared.Edition.{Edition}
 use Rattle.rules.specs.declared.Venue.{Venue}
-use Rattle.rules.specs.Base.{all, held, if◌then◌else◌, keep}
+use Rattle.rules.specs.Base.{all, held, keep}
 use Rattle.rules.specs.Words.{no_edition, with_editions}
 use Rattle.rules.specs.Settings.{base_figure, enter_edition, figure_now, free_edition, in_force, increment, is_increment, last_value, sets}
 use Rattle.rules.specs.Sound.{figure_in_range, follows}

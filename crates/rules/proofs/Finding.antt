@@ -1,4 +1,5 @@
 -- Finding: the first place that passes a test, the resting complex order of an id, a leg of an order.
+use Rattle.std.specs.Prelude.{if◌then◌else◌}
 use mathlib.Core.Path.{◌≡◌, ap, refl, sym}
 use mathlib.Core.Bool.{Bool, ◌&&◌, ◌||◌, false, false≢true, true}
 use mathlib.Core.Logic.{◌⊎◌, inl, inr}
@@ -10,7 +11,7 @@ use lib.ListN.{get_or, length}
 use borrow.Author.Tests.{eq-eqb, eqb-true}
 use Rattle.rules.specs.declared.Complex.{Complex}
 use Rattle.rules.specs.declared.Venue.{Venue}
-use Rattle.rules.specs.Base.{held, if◌then◌else◌, place_where}
+use Rattle.rules.specs.Base.{held, place_where}
 use Rattle.rules.specs.Words.{complex_at, is_complex_of, no_complex}
 use Rattle.rules.specs.Standing.{find_complex, has_leg}
 use Rattle.rules.specs.Complex.{complex_place, rests_complex}

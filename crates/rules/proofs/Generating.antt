@@ -1,4 +1,5 @@
 -- Generation: the new legging order passes its own test, and each other passes as it did.
+use Rattle.std.specs.Prelude.{if◌then◌else◌}
 use mathlib.Core.Path.{◌≡◌, refl}
 use mathlib.Core.Bool.{Bool, true, false, not, ◌&&◌, ◌||◌, false≢true}
 use mathlib.Core.Logic.{◌≢◌, inl}
@@ -23,7 +24,7 @@ use Rattle.rules.proofs.Tests.{and_l, and_r, or_r, if-same}
 use Rattle.rules.proofs.Cases.{if-by}
 use Rattle.rules.proofs.Settling.{SameOrGone, Thinned, free-stands, verdict-kept}
 use Rattle.rules.proofs.Verdicts.{Passes, passing}
-use Rattle.rules.specs.Base.{if◌then◌else◌, held}
+use Rattle.rules.specs.Base.{held}
 use Rattle.rules.specs.Words.{within, buy, opposite, sign_times, no_legging, one_to_one, place_of, legging_at, status_of, with_generations, with_legging}
 use Rattle.rules.specs.Settings.{figure_now, increment, percent}
 use Rattle.rules.specs.Effects.{◌⟫◌, report, nothing}

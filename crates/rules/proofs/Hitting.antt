@@ -1,4 +1,5 @@
 -- A hit on a legging order for k: its trade, k contracts of the other leg, the pair, and the removal of its parent's legging orders.
+use Rattle.std.specs.Prelude.{if◌then◌else◌}
 use mathlib.Core.Path.{◌∙◌, ◌≡◌, ap, refl, subst, sym}
 use mathlib.Core.Bool.{Bool, ◌||◌, false, true}
 use mathlib.Core.Logic.{◌≢◌, ◌⊎◌, inl, inr}
@@ -15,7 +16,7 @@ use Rattle.rules.specs.declared.Complex.{Complex}
 use Rattle.rules.specs.declared.Legging.{Legging}
 use Rattle.rules.specs.declared.Regular.{Regular}
 use Rattle.rules.specs.declared.Venue.{Venue}
-use Rattle.rules.specs.Base.{held, if◌then◌else◌, place_where}
+use Rattle.rules.specs.Base.{held, place_where}
 use Rattle.rules.specs.Words.{complex_at, is_complex_of, no_legging, opposite, regular_at, with_complex}
 use Rattle.rules.specs.Records.{Report, pair, trade}
 use Rattle.rules.specs.Effects.{Effect, ◌⟫◌, report}

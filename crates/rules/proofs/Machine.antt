@@ -1,4 +1,5 @@
 -- Signed numbers of 64 bits: an operation whose result fits is the integers' own, and the band's test is the definition's.
+use Rattle.std.specs.Prelude.{if◌then◌else◌}
 use mathlib.Core.Path.{◌≡◌, refl, sym, ap, ap₂, ◌∙◌, subst}
 use mathlib.Core.Bool.{Bool, true, false, true≢false}
 use Prim.Native.Nat.{ℕ, ◌+◌, ◌-◌, ◌*◌, ◌/◌, ◌≤◌, ◌<◌}
@@ -10,7 +11,6 @@ use lib.Signed.{le_z, lt_z}
 use mir.Syntax.{w32, w64}
 use mir.Val.{SFits, to_z, of_z}
 use mir.ValLaws.{to_z-of_z}
-use Rattle.rules.specs.Base.{if◌then◌else◌}
 use Rattle.rules.specs.Words.{sign_times}
 use Rattle.rules.specs.Prices.{displayed_price, near_net}
 use borrow.Author.Tests.{ltb-true}

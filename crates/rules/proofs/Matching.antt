@@ -1,4 +1,5 @@
 -- What an order's matching costs: what it meets costs nothing, and it hits one legging order at most, whose place is then free.
+use Rattle.std.specs.Prelude.{if◌then◌else◌}
 use mathlib.Core.Path.{◌∙◌, ◌≡◌, ap, refl, subst, sym}
 use mathlib.Core.Bool.{Bool, false, false≢true, true, true≢false}
 use mathlib.Core.Logic.{◌≢◌}
@@ -8,7 +9,7 @@ use borrow.Author.Tests.{eqb-true}
 use Rattle.rules.specs.declared.Legging.{Legging}
 use Rattle.rules.specs.declared.Regular.{Regular}
 use Rattle.rules.specs.declared.Venue.{Venue}
-use Rattle.rules.specs.Base.{held, if◌then◌else◌}
+use Rattle.rules.specs.Base.{held}
 use Rattle.rules.specs.Words.{legging_at, no_regular, opposite, place_of, regular_at, with_complex, with_legging, with_regular}
 use Rattle.rules.specs.Prices.{own_price, rests_at}
 use Rattle.rules.specs.Effects.{repeat, report, turned}

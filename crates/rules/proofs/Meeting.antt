@@ -1,5 +1,6 @@
 -- Who is met first: "best own price first, then regular by id, legging last at equal price". (e): "At one price all shown size trades by id, then, in trades
 -- of its own, all reserve by id, then the legging order."
+use Rattle.std.specs.Prelude.{if◌then◌else◌}
 use mathlib.Core.Path.{◌∙◌, ◌≡◌, refl, sym}
 use mathlib.Core.Bool.{Bool, ◌&&◌, ◌||◌, false, false≢true, not, true, true≢false}
 use mathlib.Core.List.{List}
@@ -10,7 +11,7 @@ use lib.ListN.{get_or}
 use borrow.Author.Tests.{eq-eqb, eqb-true, le-ltb, lt-ltb, ltb-false, ltb-true}
 use Rattle.rules.specs.declared.Legging.{Legging}
 use Rattle.rules.specs.declared.Regular.{Regular}
-use Rattle.rules.specs.Base.{first, held, if◌then◌else◌, picked}
+use Rattle.rules.specs.Base.{first, held, picked}
 use Rattle.rules.specs.Words.{earlier, no_regular, opposite}
 use Rattle.rules.specs.Prices.{better, own_price, rests_at, shown_size}
 use Rattle.rules.specs.Order.{is_met, legging_first, price_then_id, shown_then_id}

@@ -1,4 +1,5 @@
 -- Trades with regular orders, cancels and crosses move the ledger.
+use Rattle.std.specs.Prelude.{if◌then◌else◌}
 use mathlib.Core.Path.{◌∙◌, ◌≡◌, refl, sym}
 use mathlib.Core.Bool.{Bool, ◌||◌, false, true}
 use mathlib.Core.Logic.{◌≢◌}
@@ -13,7 +14,7 @@ use lib.Seq.{get_or-set_other}
 use borrow.Author.Tests.{eqb-false, eqb-true, ne_eqb}
 use Rattle.rules.specs.declared.Complex.{Complex}
 use Rattle.rules.specs.declared.Venue.{Venue}
-use Rattle.rules.specs.Base.{held, if◌then◌else◌}
+use Rattle.rules.specs.Base.{held}
 use Rattle.rules.specs.Words.{complex_at, no_complex, opposite, regular_at, with_complex, with_regular}
 use Rattle.rules.specs.Records.{Report, cancelled, crossed, trade}
 use Rattle.rules.specs.Effects.{report}

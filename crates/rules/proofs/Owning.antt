@@ -1,5 +1,6 @@
 -- Own prices: of the regular orders of a side and of its legging order. Fills, removals, showing again and closed gaps make none; the best own price is
 -- one of them, and none is better where each order shows some size.
+use Rattle.std.specs.Prelude.{if◌then◌else◌}
 use mathlib.Core.Path.{◌∙◌, ◌≡◌, ap, refl, subst, sym}
 use mathlib.Core.Bool.{Bool, false, false≢true, true}
 use mathlib.Core.Logic.{◌⊎◌, inl, inr}
@@ -11,7 +12,7 @@ use Rattle.rules.specs.declared.Legging.{Legging}
 use Rattle.rules.specs.declared.Regular.{Regular}
 use Rattle.rules.specs.declared.Venue.{Venue}
 use Rattle.rules.specs.declared.Verdict.{Verdict}
-use Rattle.rules.specs.Base.{held, if◌then◌else◌}
+use Rattle.rules.specs.Base.{held}
 use Rattle.rules.specs.Words.{is_price, legging_at, no_legging, place_of, regular_at, with_complex, with_legging, with_regular, within}
 use Rattle.rules.specs.Prices.{best_in, best_own, best_regular, better, better_of, own_price, rests_at}
 use Rattle.rules.specs.Removal.{remove}

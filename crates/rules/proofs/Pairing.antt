@@ -1,5 +1,6 @@
 -- A pair of k units: in the records the contracts in each of the two series are those paired by the leg's ratio, what is open of the complex order falls
 -- by as many, and its legging orders go. Here for a leg-in step; `Hitting` has the hit.
+use Rattle.std.specs.Prelude.{if◌then◌else◌}
 use mathlib.Core.Path.{◌∙◌, ◌≡◌, ap, refl, sym}
 use mathlib.Core.Bool.{Bool, false, true}
 use mathlib.Core.Logic.{◌≢◌}
@@ -12,7 +13,7 @@ use lib.ListN.{length}
 use borrow.Author.Tests.{eqb-false, eqb-true}
 use Rattle.rules.specs.declared.Complex.{Complex}
 use Rattle.rules.specs.declared.Venue.{Venue}
-use Rattle.rules.specs.Base.{held, if◌then◌else◌}
+use Rattle.rules.specs.Base.{held}
 use Rattle.rules.specs.Words.{complex_at, opposite, with_complex, with_legging}
 use Rattle.rules.specs.Records.{Report, trade}
 use Rattle.rules.specs.Effects.{Effect, ◌⟫◌, report}

@@ -1,4 +1,5 @@
 -- What `first` picks: a candidate at its place before which no candidate ranks, or nobody where no element is a candidate.
+use Rattle.std.specs.Prelude.{if◌then◌else◌}
 use mathlib.Core.Path.{◌≡◌, refl, sym, subst, ◌∙◌}
 use mathlib.Core.Bool.{Bool, true, false, true≢false}
 use mathlib.Core.List.{List, [], ◌∷◌}
@@ -6,7 +7,7 @@ use Prim.Native.Nat.{ℕ, zero, suc, ◌+◌, ◌<◌}
 use native.Mathlib.Nat.{zero-add}
 use native.Mathlib.Omega.{arith}
 use lib.ListN.{get_or, length, set}
-use Rattle.rules.specs.Base.{if◌then◌else◌, Choice, nobody, picked, ranked, first_from, first}
+use Rattle.rules.specs.Base.{Choice, nobody, picked, ranked, first_from, first}
 
 module _ {A : Type 0} (d : A) (candidate : A → Bool) where
   -- a is the candidate at place i of l

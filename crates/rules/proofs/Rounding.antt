@@ -1,11 +1,11 @@
 -- Rounding to an increment: what is displayed is the one multiple that 01's words name, of every increment.
+use Rattle.std.specs.Prelude.{if◌then◌else◌}
 use mathlib.Core.Path.{◌≡◌, refl, sym, ◌∙◌}
 use mathlib.Core.Bool.{Bool, true, false, true≢false}
 use Prim.Native.Nat.{ℕ, ◌+◌, ◌-◌, ◌*◌, ◌/◌, ◌%◌, ◌≤◌, ◌<◌}
 use native.Mathlib.Omega.{arith}
 use native.Mathlib.Nat.{div-add-mod', div-eq_of_lt-le, mod-lt, mul-mod_left}
 use lib.Dec.{eqb}
-use Rattle.rules.specs.Base.{if◌then◌else◌}
 use Rattle.rules.specs.Words.{buy}
 use Rattle.rules.specs.Prices.{displayed_price, Rounds, DisplayedRounds}
 

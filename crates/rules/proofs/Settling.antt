@@ -1,4 +1,5 @@
 -- Removing legging orders keeps the test of those that stay.
+use Rattle.std.specs.Prelude.{if◌then◌else◌}
 use mathlib.Core.Path.{◌≡◌, refl, sym, ◌∙◌}
 use mathlib.Core.Bool.{Bool, true, false, false≢true}
 use mathlib.Core.List.{List, [], ◌∷◌}
@@ -15,7 +16,7 @@ use Rattle.rules.specs.declared.Verdict.{Verdict}
 use Rattle.rules.specs.declared.Verdict.TheVariants.{Stands, Fails}
 use Rattle.rules.proofs.Verdicts.{passed, passing}
 use Rattle.rules.proofs.Tests.{and_l, if-same}
-use Rattle.rules.specs.Base.{if◌then◌else◌, held}
+use Rattle.rules.specs.Base.{held}
 use Rattle.rules.specs.Words.{opposite, no_legging, place_of, legging_at, status_of, with_legging}
 use Rattle.rules.specs.Settings.{figure_now, increment, percent}
 use Rattle.rules.specs.Prices.{better, best_regular, best_size, own_price, clear_price, market_best, away, taken1, taken2, in_band}

@@ -1,4 +1,5 @@
 -- Best price and size of a side: the best is some order's and has size, and what a fill or a new order changes.
+use Rattle.std.specs.Prelude.{if◌then◌else◌}
 use mathlib.Core.Path.{◌∙◌, ◌≡◌, refl, sym}
 use mathlib.Core.Bool.{Bool, false, false≢true, true, true≢false}
 use mathlib.Core.Logic.{◌≢◌}
@@ -12,7 +13,7 @@ use borrow.Author.Tests.{eq-eqb, eqb-true, ne_eqb}
 use Rattle.rules.specs.declared.Complex.{Complex}
 use Rattle.rules.specs.declared.Regular.{Regular}
 use Rattle.rules.specs.declared.Venue.{Venue}
-use Rattle.rules.specs.Base.{held, if◌then◌else◌}
+use Rattle.rules.specs.Base.{held}
 use Rattle.rules.specs.Words.{no_regular, opposite, regular_at, with_regular}
 use Rattle.rules.specs.Prices.{best_in, best_regular, best_size, better, better_of, rests_at, shown_size, shows_at, shows_for, size_in}
 use Rattle.rules.specs.Standing.{other_clear, other_leg, other_size}

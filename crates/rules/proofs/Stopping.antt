@@ -1,4 +1,5 @@
 -- A step of legging in that empties neither level and leaves some of the order open is its last: what is left at one of the two prices fills no unit.
+use Rattle.std.specs.Prelude.{if◌then◌else◌}
 use mathlib.Core.Path.{◌∙◌, ◌≡◌, ap, refl, sym}
 use mathlib.Core.Bool.{Bool, true, false, ◌&&◌}
 use mathlib.Core.Logic.{◌≢◌, ◌⊎◌, inl, inr, ⊎_elim}
@@ -14,7 +15,7 @@ use borrow.Author.Tests.{eqb-true}
 use Rattle.rules.specs.declared.Complex.{Complex}
 use Rattle.rules.specs.declared.Regular.{Regular}
 use Rattle.rules.specs.declared.Venue.{Venue}
-use Rattle.rules.specs.Base.{held, if◌then◌else◌}
+use Rattle.rules.specs.Base.{held}
 use Rattle.rules.specs.Words.{complex_at, no_complex, no_regular, opposite, regular_at, with_complex, with_regular}
 use Rattle.rules.specs.Records.{Report}
 use Rattle.rules.specs.Effects.{Effect, ended}

@@ -1,4 +1,5 @@
 -- Sums over the places of a list, of any type, and what one place's change does to them.
+use Rattle.std.specs.Prelude.{if◌then◌else◌}
 use mathlib.Core.Path.{◌≡◌, ap, refl}
 use mathlib.Core.Bool.{Bool, true, false}
 use mathlib.Core.List.{List, [], ◌∷◌, ◌++◌}
@@ -8,7 +9,7 @@ use native.Mathlib.Decide.{dec_lt, dec_le}
 use native.Mathlib.Nat.{mul-suc}
 use lib.ListN.{length, get_or, set, take, get_or-eq_default}
 use lib.Seq.{set_out, get_or-set_other}
-use Rattle.rules.specs.Base.{if◌then◌else◌, held}
+use Rattle.rules.specs.Base.{held}
 use Rattle.rules.proofs.Tests.{held-pos, pos-held}
 
 module _ {A : Type 0} (f : A → ℕ) where

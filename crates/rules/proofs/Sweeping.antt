@@ -1,5 +1,6 @@
 -- A sweep goes through all orders that rest, in the order of their places. None of them leaves more of an order open, and at a place that is free
 -- by its turn nothing is done.
+use Rattle.std.specs.Prelude.{if◌then◌else◌}
 use mathlib.Core.Path.{◌∙◌, ◌≡◌, ap, ap₂, refl}
 use mathlib.Core.Bool.{Bool, ◌&&◌, false, true}
 use mathlib.Core.List.{List, [], ◌∷◌, map}
@@ -8,7 +9,7 @@ use native.Mathlib.Omega.{arith}
 use lib.ListN.{get_or}
 use Rattle.rules.specs.declared.Complex.{Complex}
 use Rattle.rules.specs.declared.Venue.{Venue}
-use Rattle.rules.specs.Base.{held, if◌then◌else◌, keep}
+use Rattle.rules.specs.Base.{held, keep}
 use Rattle.rules.specs.Words.{with_generations, complex_at, no_complex, with_legging, with_regular}
 use Rattle.rules.specs.Effects.{Effect, ◌⟫◌, nothing, repeat, report}
 use Rattle.rules.specs.Removal.{remove}

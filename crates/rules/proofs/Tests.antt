@@ -1,4 +1,5 @@
 -- Tests: what a Bool that came out true or false says.
+use Rattle.std.specs.Prelude.{if◌then◌else◌}
 use mathlib.Core.Path.{◌≡◌, refl, sym}
 use mathlib.Core.Bool.{Bool, true, false, not, ◌&&◌, ◌||◌, true≢false, false≢true}
 use mathlib.Core.Logic.{◌⊎◌, inl, inr}
@@ -6,7 +7,7 @@ use Prim.Native.Nat.{ℕ, zero, suc, ◌<◌}
 use native.Mathlib.Omega.{arith}
 use lib.Dec.{eqb-suc-zero}
 use borrow.Author.Tests.{eqb-true, eqb-false, ne_eqb, not-false}
-use Rattle.rules.specs.Base.{if◌then◌else◌, held}
+use Rattle.rules.specs.Base.{held}
 
 -- a conjunction's parts, and back
 pub and_l : (a b : Bool) → (a && b) ≡ true → a ≡ true
@@ -32,7 +33,7 @@ pub decide : (b : Bool) → (b ≡ true) ⊎ (b ≡ false)
 decide true = inl refl
 decide false = inr refl
 
-pub if-same {ℓ} : {A : Type ℓ} (b : Bool) (x : A) → (if b then x else x) ≡ x
+pub if-same : {A : Type 0} (b : Bool) (x : A) → (if b then x else x) ≡ x
 if-same true x = refl
 if-same false x = refl
 

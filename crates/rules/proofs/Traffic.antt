@@ -1,5 +1,6 @@
 -- Traffic: what a message generates in a series is counted there, each under the ceiling; the counts keep their length and do not fall; and the id
 -- that a limited sweep reached is at most the last.
+use Rattle.std.specs.Prelude.{if◌then◌else◌}
 use mathlib.Core.Path.{◌∙◌, ◌≡◌, ap, refl, subst, sym}
 use mathlib.Core.Bool.{Bool, ◌&&◌, false, not, true}
 use mathlib.Core.List.{List, [], ◌++◌, ◌∷◌}
@@ -19,7 +20,7 @@ use Rattle.rules.specs.declared.Message.TheVariants.{Away, Cancel, Increment, Li
 use Rattle.rules.specs.declared.Venue.{Venue}
 use Rattle.rules.specs.declared.Verdict.{Verdict}
 use Rattle.rules.specs.declared.Cause.TheVariants.{Replaced}
-use Rattle.rules.specs.Base.{all, held, if◌then◌else◌, keep}
+use Rattle.rules.specs.Base.{all, held, keep}
 use Rattle.rules.specs.Words.{complex_at, no_complex, no_generations, place_of, with_complex, with_editions, with_generations, with_last, with_legging, with_reached, with_regular, with_series}
 use Rattle.rules.specs.Settings.{enter_edition}
 use Rattle.rules.specs.Messages.{message_of}

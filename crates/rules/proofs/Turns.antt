@@ -1,4 +1,5 @@
 -- In a sweep each resting order has one turn: what the orders of its places pay, each by its own rate, all orders together can pay.
+use Rattle.std.specs.Prelude.{if◌then◌else◌}
 use mathlib.Core.Path.{◌≡◌, ap, ◌∙◌}
 use mathlib.Core.Bool.{Bool, true, false, not, ◌&&◌}
 use mathlib.Core.List.{List, [], ◌∷◌}
@@ -8,7 +9,7 @@ use lib.Dec.{ltb}
 use lib.ListN.{get_or, length, take}
 use Rattle.rules.specs.declared.Complex.{Complex}
 use Rattle.rules.specs.declared.Venue.{Venue}
-use Rattle.rules.specs.Base.{if◌then◌else◌, held}
+use Rattle.rules.specs.Base.{held}
 use Rattle.rules.specs.Words.{no_complex}
 use Rattle.rules.specs.Complex.{going_round, places_of, resting_places}
 use Rattle.rules.proofs.Summing.{sum, sum-firsts, sum-join}

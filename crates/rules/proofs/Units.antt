@@ -1,4 +1,5 @@
 -- Whole units: how many of a complex order a step of legging in trades. Of one contract of each leg a price always fills one.
+use Rattle.std.specs.Prelude.{if◌then◌else◌}
 use mathlib.Core.Path.{◌≡◌, refl}
 use mathlib.Core.Bool.{true, false≢true}
 use Prim.Native.Nat.{ℕ, ◌+◌, ◌*◌, ◌/◌, ◌≤◌, ◌<◌, min}
@@ -10,7 +11,7 @@ use borrow.Author.Tests.{eq-eqb, eqb-true, le-leb, ne_eqb}
 use Rattle.rules.specs.declared.Complex.{Complex}
 use Rattle.rules.specs.declared.Legging.{Legging}
 use Rattle.rules.specs.declared.Venue.{Venue}
-use Rattle.rules.specs.Base.{held, if◌then◌else◌}
+use Rattle.rules.specs.Base.{held}
 use Rattle.rules.specs.Words.{legging_at, no_regular, one_to_one, opposite}
 use Rattle.rules.specs.Prices.{best_own, best_regular, best_size, better, better_of, own_price, own_size, shows_at, shows_for, size_in}
 use Rattle.rules.specs.Complex.{fills_unit, touches, units_in}

@@ -1,4 +1,5 @@
 -- The standing test, passed: its four facts.
+use Rattle.std.specs.Prelude.{if◌then◌else◌}
 use mathlib.Core.Path.{◌≡◌, refl}
 use mathlib.Core.Bool.{Bool, true, false, not}
 use Prim.Native.Nat.{ℕ}
@@ -9,7 +10,6 @@ use Rattle.rules.specs.declared.Venue.{Venue}
 use Rattle.rules.specs.declared.Cause.TheVariants.{Worse, Unpaired, OutOfBand, NotOpen}
 use Rattle.rules.specs.declared.Verdict.{Verdict}
 use Rattle.rules.specs.declared.Verdict.TheVariants.{Stands, Fails}
-use Rattle.rules.specs.Base.{if◌then◌else◌}
 use Rattle.rules.specs.Prices.{in_band}
 use Rattle.rules.specs.Standing.{both_open, displayed_no_worse, pairs, verdict_of}
 

@@ -1,5 +1,6 @@
 -- Fields in range: what each place and each record holds fits its width. `Ranged v`: of every place of v, held or free; kept by all that
 -- writes one place.
+use Rattle.std.specs.Prelude.{if◌then◌else◌}
 use mathlib.Core.Path.{◌∙◌, ◌≡◌, refl, subst, sym}
 use mathlib.Core.Bool.{Bool, ◌&&◌, false, false≢true, not, true}
 use mathlib.Core.List.{List, [], ◌++◌, ◌∷◌}
@@ -16,7 +17,7 @@ use Rattle.rules.specs.declared.Listed.{Listed}
 use Rattle.rules.specs.declared.Message.TheVariants.{Away, Increment, Percent, Status}
 use Rattle.rules.specs.declared.Regular.{Regular}
 use Rattle.rules.specs.declared.Venue.{Venue}
-use Rattle.rules.specs.Base.{held, if◌then◌else◌}
+use Rattle.rules.specs.Base.{held}
 use Rattle.rules.specs.Words.{complex_at, is_away, is_class, is_id, is_limit, is_price, is_quantity, is_ratio, is_series, is_side, is_status, no_complex}
 use Rattle.rules.specs.Words.{no_edition, no_legging, no_regular, not_listed, one_to_one, regular_at, status_of, with_complex, with_editions}
 use Rattle.rules.specs.Words.{with_generations, with_last, with_reached, with_legging, with_regular, with_series, within}

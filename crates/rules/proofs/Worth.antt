@@ -1,5 +1,6 @@
 -- What a venue is worth: the bytes that the going of its orders still pays for. A regular order pays a when what it shows is gone, and b when all of it is:
 -- the rates differ by what is done. An effect costs c where what it writes and what the venue left is worth come to at most what the venue was worth and c more.
+use Rattle.std.specs.Prelude.{if◌then◌else◌}
 use mathlib.Core.Path.{◌∙◌, ◌≡◌, refl, sym}
 use mathlib.Core.Bool.{Bool, true, false, ◌&&◌}
 use mathlib.Core.List.{List, [], ◌∷◌, map}
@@ -15,7 +16,7 @@ use Rattle.rules.specs.declared.Legging.{Legging}
 use Rattle.rules.specs.declared.Venue.{Venue}
 use Rattle.rules.specs.declared.Verdict.{Verdict}
 use Rattle.rules.specs.declared.Verdict.TheVariants.{Stands, Fails}
-use Rattle.rules.specs.Base.{if◌then◌else◌, held}
+use Rattle.rules.specs.Base.{held}
 use Rattle.rules.specs.Words.{no_regular, no_complex, no_legging, regular_at, complex_at, one_to_one, with_regular, with_complex, with_legging}
 use Rattle.rules.specs.Bytes.{bytes, framed}
 use Rattle.rules.specs.Records.{Report, answer, trade, pair, generated, removed, crossed, cancelled, looked, encode, encode_all}

@@ -1,4 +1,5 @@
 -- What each effect writes: records that fit their widths, and the fields stay in range. Nothing is asked of the venue but that.
+use Rattle.std.specs.Prelude.{if◌then◌else◌}
 use mathlib.Core.Path.{◌≡◌, subst, sym}
 use mathlib.Core.Bool.{Bool, ◌&&◌, false, true}
 use mathlib.Core.Logic.{◌⊎◌, inl, inr}
@@ -20,7 +21,7 @@ use Rattle.rules.specs.declared.Message.TheVariants.{Away, Cancel, Increment, Li
 use Rattle.rules.specs.declared.Venue.{Venue}
 use Rattle.rules.specs.declared.Verdict.{Verdict}
 use Rattle.rules.specs.declared.Verdict.TheVariants.{Fails, Stands}
-use Rattle.rules.specs.Base.{held, if◌then◌else◌}
+use Rattle.rules.specs.Base.{held}
 use Rattle.rules.specs.Words.{complex_at, is_complex_of, legging_at, no_complex, no_legging, opposite, regular_at, with_legging, within}
 use Rattle.rules.specs.Settings.{increment}
 use Rattle.rules.specs.Records.{ForAll, Fits, FourSigned, Report, FourBytes, looked, removed}

@@ -1,5 +1,6 @@
 -- What one message writes: its answer, a limited sweep's 72, and what the places can pay for. The dearest is a limited sweep in which each complex order is
 -- of unequal ratios.
+use Rattle.std.specs.Prelude.{if◌then◌else◌}
 use mathlib.Core.Path.{◌≡◌, ◌∙◌, refl}
 use mathlib.Core.Bool.{Bool, false, not, true}
 use mathlib.Core.Logic.{◌≢◌}
@@ -16,7 +17,6 @@ use Rattle.rules.specs.declared.Complex.{Complex}
 use Rattle.rules.specs.declared.Message.{Message}
 use Rattle.rules.specs.declared.Message.TheVariants.{Away, Cancel, Increment, LimitedSweep, Order, Percent, Status, Sweep, TwoLeg}
 use Rattle.rules.specs.declared.Venue.{Venue}
-use Rattle.rules.specs.Base.{if◌then◌else◌}
 use Rattle.rules.specs.Words.{complex_at, no_complex, one_to_one, with_complex, with_editions, with_last, with_legging, with_reached, with_regular, with_series}
 use Rattle.rules.specs.Settings.{enter_edition, percentage}
 use Rattle.rules.specs.Messages.{message_of}

@@ -1,6 +1,5 @@
 -- Document 01, "Message and record bytes": numbers as bytes. "Little-endian: length u16 of the whole, kind u16, then fields."
-use Rattle.std.specs.Prelude.{List, [], ◌∷◌, ◌++◌, ℕ, zero, suc, ◌+◌, ◌-◌, ◌*◌, ◌/◌, ◌%◌, ltb, length, get_or, ℤ, pos, negsuc}
-use Rattle.rules.specs.Base.{if◌then◌else◌}
+use Rattle.std.specs.Prelude.{List, [], ◌∷◌, ◌++◌, ℕ, zero, suc, ◌+◌, ◌-◌, ◌*◌, ◌/◌, ◌%◌, ltb, length, get_or, ℤ, pos, negsuc, if◌then◌else◌}
 
 -- Reading -------------------------------------------------------------------------------------
 

@@ -1,11 +1,10 @@
 -- Document 01, "Refusals": "Two calls: a run from fresh over a message list, and one message upon a venue held by value, the caller giving
 -- how many messages went before it, a u32; its number is one more." Refusals 9 and 10. Beyond the documents, a run upon a venue that a host
 -- holds. And document 02 (d)'s call, which tells the settings.
-use Rattle.std.specs.Prelude.{Bool, true, false, not, ◌&&◌, ◌||◌, List, [], ◌∷◌, ◌++◌, map, ℕ, zero, suc, ◌-◌, ltb, eqb, length, drop, replicate}
+use Rattle.std.specs.Prelude.{Bool, true, false, not, ◌&&◌, ◌||◌, List, [], ◌∷◌, ◌++◌, map, ℕ, zero, suc, ◌-◌, ltb, eqb, length, drop, replicate, if◌then◌else◌}
 use Rattle.rules.specs.declared.Venue.{Venue}
 use Rattle.rules.specs.declared.Returned.{Returned}
 use Rattle.rules.specs.declared.Settings.{Settings}
-use Rattle.rules.specs.Base.{if◌then◌else◌}
 use Rattle.rules.specs.Words.{fresh_venue}
 use Rattle.rules.specs.Settings.{percentage, in_force}
 use Rattle.rules.specs.Bytes.{length_field}

@@ -1,11 +1,11 @@
 -- Document 01, "Complex (kind 2)", with "Sweep" and "Cancel"; kind 10 of request (g), whose quantities "outside 65 are units": of kind 2
 -- a unit is one contract of each leg; and the limited sweep of request (m).
-use Rattle.std.specs.Prelude.{Bool, true, not, ◌&&◌, ◌||◌, List, [], ◌∷◌, ◌++◌, ℕ, suc, ◌*◌, ◌/◌, min, leb, ltb, eqb, length, take, ℤ, pos, neg_ℤ, ◌+ℤ◌}
+use Rattle.std.specs.Prelude.{Bool, true, not, ◌&&◌, ◌||◌, List, [], ◌∷◌, ◌++◌, ℕ, suc, ◌*◌, ◌/◌, min, leb, ltb, eqb, length, take, ℤ, pos, neg_ℤ, ◌+ℤ◌, if◌then◌else◌}
 use Rattle.std.specs.Int.Signed.{le_z, lt_z}
 use Rattle.rules.specs.declared.Complex.{Complex}
 use Rattle.rules.specs.declared.Venue.{Venue}
 use Rattle.rules.specs.declared.Cause.TheVariants.{Executed, Withdrawn, Touched, NoUnit}
-use Rattle.rules.specs.Base.{if◌then◌else◌, held, place_where, nobody, picked, first}
+use Rattle.rules.specs.Base.{held, place_where, nobody, picked, first}
 use Rattle.rules.specs.Words.{closed, opposite, place_of, status_of, regular_at, complex_at, is_regular_of, is_complex_of, earlier_complex}
 use Rattle.rules.specs.Words.{with_reached}
 use Rattle.rules.specs.Prices.{best_regular, best_size, best_own, own_size, net, in_band}

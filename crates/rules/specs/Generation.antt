@@ -1,10 +1,10 @@
 -- Document 01, "Generation of a leg", and document 02 (m), "A ceiling on legging traffic".
-use Rattle.std.specs.Prelude.{Bool, true, not, ◌&&◌, ◌||◌, List, [], ◌∷◌, ◌++◌, ℕ, suc, ◌+◌, min, leb, eqb, get_or, set, drop, ℤ, pos, negsuc, ◌-ℤ◌}
+use Rattle.std.specs.Prelude.{Bool, true, not, ◌&&◌, ◌||◌, List, [], ◌∷◌, ◌++◌, ℕ, suc, ◌+◌, min, leb, eqb, get_or, set, drop, ℤ, pos, negsuc, ◌-ℤ◌, if◌then◌else◌}
 use Rattle.rules.specs.declared.Complex.{Complex}
 use Rattle.rules.specs.declared.Legging.{Legging}
 use Rattle.rules.specs.declared.Venue.{Venue}
 use Rattle.rules.specs.declared.Cause.TheVariants.{Replaced}
-use Rattle.rules.specs.Base.{if◌then◌else◌, held}
+use Rattle.rules.specs.Base.{held}
 use Rattle.rules.specs.Words.{within, opposite, sign_times, customer, other_class, no_generations, one_to_one, with_legging}
 use Rattle.rules.specs.Words.{with_generations}
 use Rattle.rules.specs.Words.{place_of, complex_at, legging_at}

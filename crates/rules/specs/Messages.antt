@@ -1,11 +1,10 @@
 -- Document 01, "Message and record bytes": the messages, kinds 1 to 6, and document 02's: (d) kinds 7 and 8, (e) kind 9, (g) kind 10, (m)
 -- kind 11.
-use Rattle.std.specs.Prelude.{◌≡◌, List, [], ◌++◌, ℕ, ◌-◌, eqb, length}
+use Rattle.std.specs.Prelude.{◌≡◌, List, [], ◌++◌, ℕ, ◌-◌, eqb, length, if◌then◌else◌}
 use Rattle.rules.specs.declared.Regular.{Regular}
 use Rattle.rules.specs.declared.Complex.{Complex}
 use Rattle.rules.specs.declared.Message.{Message}
 use Rattle.rules.specs.declared.Message.TheVariants.{Order, TwoLeg, Cancel, Away, Status, Sweep, Increment, Percent, LimitedSweep}
-use Rattle.rules.specs.Base.{if◌then◌else◌}
 use Rattle.rules.specs.Words.{one_to_one}
 use Rattle.rules.specs.Bytes.{u8_at, u32_at, as_signed, kind_field, u8, u32, i32, framed}
 

@@ -1,9 +1,9 @@
 -- Document 01, "Order (kind 1)", and kind 9 of request (e).
-use Rattle.std.specs.Prelude.{Bool, not, ◌&&◌, ◌||◌, ℕ, min, eqb}
+use Rattle.std.specs.Prelude.{Bool, not, ◌&&◌, ◌||◌, ℕ, min, eqb, if◌then◌else◌}
 use Rattle.rules.specs.declared.Regular.{Regular}
 use Rattle.rules.specs.declared.Legging.{Legging}
 use Rattle.rules.specs.declared.Venue.{Venue}
-use Rattle.rules.specs.Base.{if◌then◌else◌, held, place_where, Choice, nobody, picked, first}
+use Rattle.rules.specs.Base.{held, place_where, Choice, nobody, picked, first}
 use Rattle.rules.specs.Words.{opposite, regular_at, legging_at, is_complex_of, earlier}
 use Rattle.rules.specs.Prices.{better, rests_at, reaches, shown_size, own_price}
 use Rattle.rules.specs.Records.{trade}

@@ -1,12 +1,12 @@
 -- The arrangement of places: between messages held places come first, in rising id, and free places are all zero.
 -- So place order is id order, a new order's place is the one after all others, and equal states are equal values.
-use Rattle.std.specs.Prelude.{Bool, true, ◌&&◌, List, [], ◌∷◌, ◌++◌, ℕ, ◌-◌, ltb, eqb, nat_abs, length, replicate}
+use Rattle.std.specs.Prelude.{Bool, true, ◌&&◌, List, [], ◌∷◌, ◌++◌, ℕ, ◌-◌, ltb, eqb, nat_abs, length, replicate, if◌then◌else◌}
 use Rattle.rules.specs.declared.Regular.{Regular}
 use Rattle.rules.specs.declared.Complex.{Complex}
 use Rattle.rules.specs.declared.Legging.{Legging}
 use Rattle.rules.specs.declared.Edition.{Edition}
 use Rattle.rules.specs.declared.Venue.{Venue}
-use Rattle.rules.specs.Base.{if◌then◌else◌, held, all, keep}
+use Rattle.rules.specs.Base.{held, all, keep}
 use Rattle.rules.specs.Words.{no_regular, no_complex, with_regular, with_complex}
 
 abbrev pub holds_regular : Regular → Bool

@@ -1,9 +1,8 @@
 -- Document 01, "Message and record bytes": the records, kinds 64 to 71, document 02 (m)'s, kind 72, and the sheet that they make.
-use Rattle.std.specs.Prelude.{true, false, List, [], ◌∷◌, ◌++◌, ℕ, zero, suc, ◌-◌, ◌<◌, eqb, length, drop, replicate, ℤ, pos, negsuc}
+use Rattle.std.specs.Prelude.{true, false, List, [], ◌∷◌, ◌++◌, ℕ, zero, suc, ◌-◌, ◌<◌, eqb, length, drop, replicate, ℤ, pos, negsuc, if◌then◌else◌}
 use Rattle.rules.specs.declared.Cause.{Cause}
 use Rattle.rules.specs.declared.Cause.TheVariants.{Worse, Unpaired, Executed, Withdrawn, OutOfBand, NotOpen, Replaced, Touched}
 use Rattle.rules.specs.declared.Cause.TheVariants.{NoUnit}
-use Rattle.rules.specs.Base.{if◌then◌else◌}
 use Rattle.rules.specs.Bytes.{u8_at, u16_at, u32_at, as_signed, length_field, kind_field, u8, u16, u32, i32, framed}
 
 -- the records, by the table's columns

@@ -1,6 +1,6 @@
 -- Document 01, "Refusals", 1 to 8: "Checked in number order"; and document 02's, (d) 11 to 13: "checked after 4, in this order", (g) 14:
 -- "checked after 4 and 11 to 13". Where 01 names kind 1, kind 9 is meant too, and where it names kind 2, kind 10.
-use Rattle.std.specs.Prelude.{Bool, true, false, not, ◌&&◌, ◌||◌, List, ℕ, ◌%◌, leb, ltb, eqb, length}
+use Rattle.std.specs.Prelude.{Bool, true, false, not, ◌&&◌, ◌||◌, List, ℕ, ◌%◌, leb, ltb, eqb, length, if◌then◌else◌}
 use Rattle.rules.specs.declared.Regular.{Regular}
 use Rattle.rules.specs.declared.Complex.{Complex}
 use Rattle.rules.specs.declared.Venue.{Venue}
@@ -8,7 +8,7 @@ use Rattle.rules.specs.declared.Message.{Message}
 use Rattle.rules.specs.declared.Message.TheVariants.{Order, TwoLeg, Cancel, Away, Status, Sweep, Increment, Percent, LimitedSweep}
 use Rattle.rules.specs.declared.Decoded.{Decoded}
 use Rattle.rules.specs.declared.Decoded.TheVariants.{Taken, Refused}
-use Rattle.rules.specs.Base.{if◌then◌else◌, held, all}
+use Rattle.rules.specs.Base.{held, all}
 use Rattle.rules.specs.Words.{closed, status_of, one_to_one, within, is_id, is_series, is_side, is_class, is_status, is_quantity, is_away}
 use Rattle.rules.specs.Words.{is_price, is_limit, is_ratio}
 use Rattle.rules.specs.Settings.{is_increment, is_percent, is_edition, increment, free_edition}

@@ -1,13 +1,13 @@
 -- Removal of legging orders: each place's verdict is given, those that fail go together, and their records come by rising place.
 -- "Outside settling, removals made together come by place." 01 of a settling: "The 68 records of one settling may come in any order, each
 -- once." Request (f): "The 68 records of one settling now come by rising place."
-use Rattle.std.specs.Prelude.{Bool, List, [], ◌∷◌, ◌++◌, ℕ, suc, ◌/◌, ◌%◌, eqb}
+use Rattle.std.specs.Prelude.{Bool, List, [], ◌∷◌, ◌++◌, ℕ, suc, ◌/◌, ◌%◌, eqb, if◌then◌else◌}
 use Rattle.rules.specs.declared.Legging.{Legging}
 use Rattle.rules.specs.declared.Venue.{Venue}
 use Rattle.rules.specs.declared.Cause.{Cause}
 use Rattle.rules.specs.declared.Verdict.{Verdict}
 use Rattle.rules.specs.declared.Verdict.TheVariants.{Stands, Fails}
-use Rattle.rules.specs.Base.{if◌then◌else◌, held}
+use Rattle.rules.specs.Base.{held}
 use Rattle.rules.specs.Words.{no_legging, with_legging}
 use Rattle.rules.specs.Records.{Report, removed}
 use Rattle.rules.specs.Effects.{Effect}

@@ -1,9 +1,9 @@
 -- Document 02 (d), "Settings with dates": the increments and the band's percentage, by editions. A figure is one of nine numbers: 0 to 7
 -- is the increment of that series, 8 the percentage.
-use Rattle.std.specs.Prelude.{Bool, not, ◌&&◌, ◌||◌, List, [], ◌∷◌, ℕ, leb, ltb, eqb, set}
+use Rattle.std.specs.Prelude.{Bool, not, ◌&&◌, ◌||◌, List, [], ◌∷◌, ℕ, leb, ltb, eqb, set, if◌then◌else◌}
 use Rattle.rules.specs.declared.Edition.{Edition}
 use Rattle.rules.specs.declared.Venue.{Venue}
-use Rattle.rules.specs.Base.{if◌then◌else◌, held, keep, place_where}
+use Rattle.rules.specs.Base.{held, keep, place_where}
 use Rattle.rules.specs.Words.{within, with_editions}
 
 -- Figures -------------------------------------------------------------------------------------

@@ -2,13 +2,13 @@
 -- counting own prices, and each legging order matches an open parent leg, is no larger than what its parent has open, and passes its test."
 -- Document 02 (d): "Editions that don't rise from 0 in both numbers are unsound". (e): "a given venue where one shows otherwise is
 -- unsound". (m): "generations of a series that fall in number, or an id reached by kind 11 above the last accepted, are unsound".
-use Rattle.std.specs.Prelude.{Bool, true, not, ◌&&◌, ◌||◌, List, [], ◌∷◌, ℕ, suc, ◌-◌, ◌/◌, ◌%◌, leb, ltb, eqb}
+use Rattle.std.specs.Prelude.{Bool, true, not, ◌&&◌, ◌||◌, List, [], ◌∷◌, ℕ, suc, ◌-◌, ◌/◌, ◌%◌, leb, ltb, eqb, if◌then◌else◌}
 use Rattle.rules.specs.declared.Regular.{Regular}
 use Rattle.rules.specs.declared.Legging.{Legging}
 use Rattle.rules.specs.declared.Listed.{Listed}
 use Rattle.rules.specs.declared.Edition.{Edition}
 use Rattle.rules.specs.declared.Venue.{Venue}
-use Rattle.rules.specs.Base.{if◌then◌else◌, held, all}
+use Rattle.rules.specs.Base.{held, all}
 use Rattle.rules.specs.Words.{buy, sell, is_price, is_quantity, is_away, is_status, is_id, one_to_one}
 use Rattle.rules.specs.Settings.{percentage, is_increment, is_percent, is_edition}
 use Rattle.rules.specs.Prices.{best_own}

@@ -1,5 +1,5 @@
 -- Document 01, "Standing test and settling".
-use Rattle.std.specs.Prelude.{Bool, true, false, not, ◌&&◌, ◌||◌, List, [], ◌∷◌, map, ℕ, ◌-◌, ◌/◌, ◌%◌, leb, eqb, ℤ, pos, ◌+ℤ◌}
+use Rattle.std.specs.Prelude.{Bool, true, false, not, ◌&&◌, ◌||◌, List, [], ◌∷◌, map, ℕ, ◌-◌, ◌/◌, ◌%◌, leb, eqb, ℤ, pos, ◌+ℤ◌, if◌then◌else◌}
 use Rattle.std.specs.Int.Signed.{le_z}
 use Rattle.rules.specs.declared.Regular.{Regular}
 use Rattle.rules.specs.declared.Complex.{Complex}
@@ -9,7 +9,7 @@ use Rattle.rules.specs.declared.Venue.{Venue}
 use Rattle.rules.specs.declared.Cause.TheVariants.{Worse, Unpaired, OutOfBand, NotOpen}
 use Rattle.rules.specs.declared.Verdict.{Verdict}
 use Rattle.rules.specs.declared.Verdict.TheVariants.{Stands, Fails}
-use Rattle.rules.specs.Base.{if◌then◌else◌, held}
+use Rattle.rules.specs.Base.{held}
 use Rattle.rules.specs.Words.{opposite, sign_times, opened, status_of, no_complex, is_complex_of, with_regular}
 use Rattle.rules.specs.Settings.{increment}
 use Rattle.rules.specs.Prices.{better, best_regular, best_size, clear_price, displayed_price, in_band}

@@ -1,9 +1,8 @@
 -- Document 01, Demand 3: "The rest is summed from the records that name its id: contracts in a series from that series' 65, as taker or
 -- maker; pairs, or paired, from 66; crossed from 70, as taker or maker; cancelled from 71."
-use Rattle.std.specs.Prelude.{◌&&◌, ◌||◌, List, [], ◌∷◌, ℕ, ◌+◌, eqb}
+use Rattle.std.specs.Prelude.{◌&&◌, ◌||◌, List, [], ◌∷◌, ℕ, ◌+◌, eqb, if◌then◌else◌}
 use Rattle.rules.specs.declared.Regular.{Regular}
 use Rattle.rules.specs.declared.Complex.{Complex}
-use Rattle.rules.specs.Base.{if◌then◌else◌}
 use Rattle.rules.specs.Records.{Report, answer, trade, pair, generated, removed, crossed, cancelled, looked}
 
 -- the sum of what each record counts

@@ -1,4 +1,5 @@
 -- A memory's records one after another, and the standing after each.
+use Rattle.std.specs.Prelude.{if◌then◌else◌}
 use mathlib.Core.Path.{◌≡◌, refl, sym, ap, ◌∙◌}
 use mathlib.Core.Bool.{Bool, true, false, not, ◌&&◌, ◌||◌}
 use mathlib.Core.List.{List, [], ◌∷◌}
@@ -7,7 +8,7 @@ use native.Mathlib.Omega.{arith}
 use lib.Dec.{eqb, leb}
 use lib.ListN.{length, take, drop, length-drop}
 use borrow.Author.Tests.{eqb-true, not-false}
-use Rattle.rules.specs.Base.{if◌then◌else◌, all}
+use Rattle.rules.specs.Base.{all}
 use Rattle.rules.specs.Bytes.{u8_at, u16_at, length_field, kind_field}
 use Rattle.rules.specs.Refusals.{torn}
 use Rattle.rules.proofs.RefusalsLaws.{whole}

@@ -1,6 +1,6 @@
 -- Document 02 (h): a set's records in one pass, each beside what the ones before it leave: its order, its counts and its fields' places.
-use Rattle.std.specs.Prelude.{Bool, true, false, not, ◌&&◌, ◌||◌, List, [], ◌∷◌, ℕ, ◌+◌, ◌-◌, ◌/◌, ◌%◌, leb, ltb, eqb, length}
-use Rattle.rules.specs.Base.{if◌then◌else◌, all}
+use Rattle.std.specs.Prelude.{Bool, true, false, not, ◌&&◌, ◌||◌, List, [], ◌∷◌, ℕ, ◌+◌, ◌-◌, ◌/◌, ◌%◌, leb, ltb, eqb, length, if◌then◌else◌}
+use Rattle.rules.specs.Base.{all}
 use Rattle.rules.specs.Bytes.{u8_at, length_field, kind_field}
 use Rattle.rules.specs.Refusals.{torn}
 use Rattle.sets.specs.Set.{Held, broken, row, set_length, part, sort_key, generation_told, tells_edition, tells_regular, tells_complex, tells_legging, tells_generation, of_whole, of_short, has_place}

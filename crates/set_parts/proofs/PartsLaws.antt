@@ -1,4 +1,5 @@
 -- The parts of a set, record by record: what comes next of each, and what is left.
+use Rattle.std.specs.Prelude.{if◌then◌else◌}
 use mathlib.Core.Path.{◌≡◌, refl, sym, ap, ap₂, ◌∙◌}
 use mathlib.Core.Bool.{Bool, true, false, false≢true}
 use mathlib.Core.List.{List, [], ◌∷◌, ◌++◌, map, append_assoc, append-nil}
@@ -16,7 +17,7 @@ use Rattle.rules.specs.declared.Listed.{Listed}
 use Rattle.rules.specs.declared.Generations.{Generations}
 use Rattle.rules.specs.declared.Venue.{Venue}
 use Rattle.rules.specs.declared.Message.TheVariants.{Away, Status}
-use Rattle.rules.specs.Base.{if◌then◌else◌, held, keep}
+use Rattle.rules.specs.Base.{held, keep}
 use Rattle.rules.specs.Words.{no_generations, one_to_one}
 use Rattle.rules.specs.Bytes.{bytes, u8, framed}
 use Rattle.rules.specs.Messages.{two_leg_fields, encode_message}

@@ -1,4 +1,5 @@
 -- Laws of what is written of a set: bytes after bytes, none, and what a write of them leaves.
+use Rattle.std.specs.Prelude.{if◌then◌else◌}
 use mathlib.Core.Path.{◌≡◌, refl, sym, ap, ap₂, ◌∙◌}
 use mathlib.Core.Bool.{Bool, true, false}
 use mathlib.Core.List.{List, [], ◌++◌, append_assoc, append-nil}
@@ -7,7 +8,6 @@ use native.Mathlib.Omega.{arith}
 use lib.Dec.{leb}
 use lib.ListN.{length, take, length-append}
 use borrow.Author.Tests.{le-leb, lt-leb, leb-true, leb-false}
-use Rattle.rules.specs.Base.{if◌then◌else◌}
 use Rattle.records.specs.Seen.{Seen, seen, pasted, ◌plus◌}
 use Rattle.records.proofs.SeenLaws.{plus-in, plus-out, pasted-to, pasted_length}
 use Rattle.set_parts.specs.SetMemory.{SetMemory, over, set_memory, ◌adds◌}

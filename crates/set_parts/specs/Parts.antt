@@ -1,6 +1,6 @@
 -- The parts of a set as they are written from the numbers of a venue.
-use Rattle.std.specs.Prelude.{◌≡◌, Bool, true, false, List, [], ℕ, suc, ◌+◌, ◌-◌, ◌*◌, ◌≤◌, leb, ltb}
-use Rattle.rules.specs.Base.{if◌then◌else◌, held}
+use Rattle.std.specs.Prelude.{◌≡◌, Bool, true, false, List, [], ℕ, suc, ◌+◌, ◌-◌, ◌*◌, ◌≤◌, leb, ltb, if◌then◌else◌}
+use Rattle.rules.specs.Base.{held}
 use Rattle.places.specs.Layout.{upto, regular_in, complex_in, legging_in}
 use Rattle.sets.specs.Set.{by_id, joined, legging_record}
 use Rattle.set_parts.specs.declared.Orders.{Orders}

@@ -1,7 +1,6 @@
 -- What is written of a set in lent memory, up to a position, and what more bytes make of it. Where they do not fit nothing is said of the bytes: the call is
 -- refused, and the memory made all zero.
-use Rattle.std.specs.Prelude.{List, [], ◌++◌, ℕ, suc, ◌+◌, leb, length, take}
-use Rattle.rules.specs.Base.{if◌then◌else◌}
+use Rattle.std.specs.Prelude.{List, [], ◌++◌, ℕ, suc, ◌+◌, leb, length, take, if◌then◌else◌}
 
 -- how many bytes the memory has, the position, and the bytes up to it
 pub record SetMemory : Type 0 where

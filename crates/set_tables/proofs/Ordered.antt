@@ -1,4 +1,5 @@
 -- The records looked at one by one are those of a set: `goes_on` from nothing read is `is_set`.
+use Rattle.std.specs.Prelude.{if◌then◌else◌}
 use mathlib.Core.Path.{◌≡◌, refl, sym, ap, ◌∙◌}
 use mathlib.Core.Bool.{Bool, true, false, not, ◌&&◌, ◌||◌, true≢false}
 use mathlib.Core.List.{List, [], ◌∷◌}
@@ -8,7 +9,7 @@ use native.Mathlib.Omega.{arith}
 use lib.Dec.{eqb, leb, ltb}
 use lib.ListN.{length}
 use borrow.Author.Tests.{eqb-true, eqb-false, eq-eqb, ne_eqb, lt-ltb, le-ltb, ltb-true, le-leb, leb-true, not-true, not-false}
-use Rattle.rules.specs.Base.{if◌then◌else◌, all, keep}
+use Rattle.rules.specs.Base.{all, keep}
 use Rattle.rules.specs.Bytes.{u8_at, kind_field}
 use Rattle.rules.proofs.Tests.{and_in, and_l, and_r, and-false, or-false-l, or-false-r}
 use Rattle.sets.specs.Set.{part, sort_key, generation_told, may_follow, in_order, count_of, of_series, few_enough, of_whole, of_short, series_then, is_set}

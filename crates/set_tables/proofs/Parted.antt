@@ -1,4 +1,5 @@
 -- A set's records: the first ones, which are of no part, and those after them, in order and few enough.
+use Rattle.std.specs.Prelude.{if◌then◌else◌}
 use mathlib.Core.Path.{◌≡◌, refl, sym, ap, ◌∙◌}
 use mathlib.Core.Bool.{Bool, true, false, not, ◌&&◌, ◌||◌, true≢false}
 use mathlib.Core.List.{List, [], ◌∷◌, ◌++◌}
@@ -8,7 +9,7 @@ use native.Mathlib.Omega.{arith}
 use lib.Dec.{eqb, leb, ltb}
 use lib.ListN.{length}
 use borrow.Author.Tests.{eqb-true, eqb-false, eq-eqb, ne_eqb, lt-ltb, le-ltb, ltb-true, ltb-false, not-true, not-false}
-use Rattle.rules.specs.Base.{if◌then◌else◌, all, keep}
+use Rattle.rules.specs.Base.{all, keep}
 use Rattle.rules.specs.Bytes.{u8_at, kind_field}
 use Rattle.rules.proofs.Tests.{and_in, and_l, and_r, or_r}
 use Rattle.sets.specs.Set.{part, sort_key, in_order, count_of, of_series, is_set, tells_edition, tells_regular, tells_complex, tells_legging, tells_generation, generation_told}

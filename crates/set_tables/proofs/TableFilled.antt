@@ -1,4 +1,5 @@
 -- A table of the venue, filled by the records of a memory one after another.
+use Rattle.std.specs.Prelude.{if◌then◌else◌}
 use mathlib.Core.Path.{◌≡◌, refl, sym, ap, ◌∙◌}
 use mathlib.Core.Bool.{Bool, true, false, not, ◌||◌, true≢false}
 use mathlib.Core.List.{List, [], ◌∷◌, ◌++◌, map}
@@ -9,7 +10,7 @@ use lib.Dec.{eqb}
 use lib.ListN.{length, get_or, set, take, drop, replicate, length-drop, length-set, length-map, length-replicate}
 use lib.Seq.{sets, sets-eq, drop-drop, length-take-le}
 use borrow.Author.Tests.{eq-eqb, ne_eqb}
-use Rattle.rules.specs.Base.{if◌then◌else◌, all, keep}
+use Rattle.rules.specs.Base.{all, keep}
 use Rattle.rules.specs.Bytes.{length_field, kind_field, u8_at, u16_at}
 use Rattle.rules.specs.Refusals.{torn}
 use Rattle.sets.specs.Set.{Held, broken, row, behind, held_from, held_in, count_of, places, set_length}

@@ -1,4 +1,5 @@
 -- The tables that are told by place or by series, and what the first record and the last one tell.
+use Rattle.std.specs.Prelude.{if◌then◌else◌}
 use mathlib.Core.Path.{◌≡◌, refl, sym, ap, ap₂, ◌∙◌}
 use mathlib.Core.Bool.{Bool, true, false, not, ◌&&◌, ◌||◌, true≢false}
 use mathlib.Core.List.{List, [], ◌∷◌, ◌++◌, map, append_assoc, append-nil}
@@ -14,7 +15,7 @@ use borrow.Author.Tests.{eqb-true, eqb-false, eq-eqb, ne_eqb, leb-true}
 use Rattle.rules.specs.declared.Legging.{Legging}
 use Rattle.rules.specs.declared.Listed.{Listed}
 use Rattle.rules.specs.declared.Generations.{Generations}
-use Rattle.rules.specs.Base.{if◌then◌else◌, held, all, keep}
+use Rattle.rules.specs.Base.{held, all, keep}
 use Rattle.rules.specs.Words.{within, is_series, is_side, place_of, no_legging, not_listed, no_generations}
 use Rattle.rules.specs.Bytes.{length_field, kind_field, u8_at, u32_at}
 use Rattle.rules.specs.Generation.{one_more}

@@ -1,4 +1,5 @@
 -- Few enough of each part in some records, taken apart and put together.
+use Rattle.std.specs.Prelude.{if◌then◌else◌}
 use mathlib.Core.Path.{◌≡◌, refl}
 use mathlib.Core.Bool.{Bool, true, false, not, ◌||◌}
 use mathlib.Core.Logic.{◌⊎◌, inl, inr, ⊎_elim}
@@ -8,7 +9,7 @@ use native.Mathlib.Omega.{arith}
 use lib.Dec.{eqb, leb}
 use lib.ListN.{length}
 use borrow.Author.Tests.{eqb-true, le-leb, leb-true}
-use Rattle.rules.specs.Base.{if◌then◌else◌, all, keep}
+use Rattle.rules.specs.Base.{all, keep}
 use Rattle.rules.specs.Bytes.{u8_at}
 use Rattle.rules.proofs.Tests.{and_in, and_l, and_r}
 use Rattle.sets.specs.Set.{count_of, few_enough, of_series, tells_complex, tells_edition, tells_generation, tells_legging, tells_regular}

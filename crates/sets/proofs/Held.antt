@@ -1,4 +1,5 @@
 -- The held places of an arranged book: they rise, each is as asked, and with free places after them they are the book.
+use Rattle.std.specs.Prelude.{if◌then◌else◌}
 use mathlib.Core.Path.{◌≡◌, refl}
 use mathlib.Core.Bool.{Bool, true, false, ◌&&◌}
 use mathlib.Core.List.{List, [], ◌∷◌}
@@ -6,7 +7,7 @@ use Prim.Native.Nat.{ℕ, suc, ◌<◌}
 use lib.Dec.{ltb}
 use lib.ListN.{get_or, length}
 use borrow.Author.Tests.{ltb-true}
-use Rattle.rules.specs.Base.{if◌then◌else◌, all, keep}
+use Rattle.rules.specs.Base.{all, keep}
 use Rattle.rules.specs.Places.{arranged, packed}
 use Rattle.rules.proofs.Tests.{and_l, and_r}
 use Rattle.sets.specs.Set.{places}

@@ -1,4 +1,5 @@
 -- Lists of records: what is kept of one list after another, what all of them are, and rows that rise.
+use Rattle.std.specs.Prelude.{if◌then◌else◌}
 use mathlib.Core.Path.{◌≡◌, refl, ap}
 use mathlib.Core.Bool.{Bool, true, false, ◌||◌}
 use mathlib.Core.List.{List, [], ◌∷◌, ◌++◌, map}
@@ -7,7 +8,7 @@ use native.Mathlib.Omega.{arith}
 use lib.Dec.{ltb}
 use lib.ListN.{length}
 use borrow.Author.Tests.{eq-eqb, lt-ltb}
-use Rattle.rules.specs.Base.{if◌then◌else◌, all, keep}
+use Rattle.rules.specs.Base.{all, keep}
 use Rattle.rules.proofs.Tests.{and_in, and_l, and_r}
 use Rattle.sets.specs.Set.{in_order, sort_key, may_follow, part}
 

@@ -1,4 +1,5 @@
 -- The resting orders of both books in one row: what is kept of it are the books, and its ids rise.
+use Rattle.std.specs.Prelude.{if◌then◌else◌}
 use mathlib.Core.Path.{◌≡◌, refl}
 use mathlib.Core.Bool.{Bool, true, false, ◌||◌}
 use mathlib.Core.List.{List, [], ◌∷◌, map}
@@ -9,7 +10,7 @@ use lib.ListN.{length}
 use borrow.Author.Tests.{ltb-false, ltb-true}
 use Rattle.rules.specs.declared.Regular.{Regular}
 use Rattle.rules.specs.declared.Complex.{Complex}
-use Rattle.rules.specs.Base.{if◌then◌else◌, keep}
+use Rattle.rules.specs.Base.{keep}
 use Rattle.rules.specs.Words.{one_to_one}
 use Rattle.rules.specs.Bytes.{kind_field}
 use Rattle.sets.specs.Set.{by_id, complex_record, sort_key, regular_record, tells_complex, tells_regular}

@@ -1,4 +1,5 @@
 -- The most bytes of a set, by the length of each record and how many there are.
+use Rattle.std.specs.Prelude.{if◌then◌else◌}
 use mathlib.Core.Path.{◌≡◌, ap}
 use mathlib.Core.Bool.{Bool, true, false}
 use mathlib.Core.List.{List, [], ◌∷◌, ◌++◌, append-nil, map}
@@ -15,7 +16,7 @@ use Rattle.rules.specs.declared.Legging.{Legging}
 use Rattle.rules.specs.declared.Listed.{Listed}
 use Rattle.rules.specs.declared.Venue.{Venue}
 use Rattle.rules.specs.declared.Message.TheVariants.{Away, Status}
-use Rattle.rules.specs.Base.{if◌then◌else◌, held, keep}
+use Rattle.rules.specs.Base.{held, keep}
 use Rattle.rules.specs.Settings.{percentage}
 use Rattle.rules.specs.Words.{no_generations, one_to_one}
 use Rattle.rules.specs.Bytes.{bytes, framed, u32, u8}

@@ -1,4 +1,5 @@
 -- Generations by series: their records do not fall, and tell the numbers.
+use Rattle.std.specs.Prelude.{if◌then◌else◌}
 use mathlib.Core.Path.{◌≡◌, refl, sym, ap}
 use mathlib.Core.Bool.{Bool, true, false}
 use mathlib.Core.List.{List, [], ◌∷◌, ◌++◌, append-nil, map}
@@ -8,7 +9,7 @@ use lib.Dec.{eqb, leb}
 use lib.ListN.{length, get_or, replicate}
 use borrow.Author.Tests.{eq-eqb, le-leb, le-ltb, leb-true, lt-ltb, ne_eqb}
 use Rattle.rules.specs.declared.Generations.{Generations}
-use Rattle.rules.specs.Base.{if◌then◌else◌, all, held, keep}
+use Rattle.rules.specs.Base.{all, held, keep}
 use Rattle.rules.specs.Words.{no_generations}
 use Rattle.rules.specs.Records.{FourBytes}
 use Rattle.rules.specs.Sound.{unfallen}

@@ -1,4 +1,5 @@
 -- Reading what was written gives the venue and the number back.
+use Rattle.std.specs.Prelude.{if◌then◌else◌}
 use mathlib.Core.Path.{◌≡◌, refl, sym, ap₂, ◌∙◌}
 use mathlib.Core.Bool.{Bool, true, false, not}
 use mathlib.Core.List.{List, [], ◌∷◌, ◌++◌, map}
@@ -14,7 +15,7 @@ use Rattle.rules.specs.declared.Listed.{Listed}
 use Rattle.rules.specs.declared.Generations.{Generations}
 use Rattle.rules.specs.declared.Venue.{Venue}
 use Rattle.rules.specs.declared.Message.TheVariants.{Away, Status}
-use Rattle.rules.specs.Base.{if◌then◌else◌, held, keep}
+use Rattle.rules.specs.Base.{held, keep}
 use Rattle.rules.specs.Words.{no_complex, no_edition, no_generations, no_legging, no_regular, not_listed}
 use Rattle.rules.specs.Bytes.{framed, kind_field, u32}
 use Rattle.rules.specs.Messages.{encode_message}

@@ -1,4 +1,5 @@
 -- What is read from any memory is sound: its books have the declared lengths, since a set has no record too many.
+use Rattle.std.specs.Prelude.{if◌then◌else◌}
 use mathlib.Core.Path.{◌≡◌, refl, ap}
 use mathlib.Core.Bool.{Bool, true, false, not, ◌&&◌, false≢true}
 use mathlib.Core.List.{List, [], ◌∷◌, map}
@@ -8,7 +9,7 @@ use lib.Dec.{eqb}
 use lib.ListN.{get_or, length, length-append, length-map, length-replicate}
 use borrow.Author.Tests.{eqb-true, ne_eqb}
 use Rattle.rules.specs.declared.Generations.{Generations}
-use Rattle.rules.specs.Base.{if◌then◌else◌, all, keep}
+use Rattle.rules.specs.Base.{all, keep}
 use Rattle.rules.specs.Words.{no_complex, no_edition, no_generations, no_regular}
 use Rattle.rules.specs.Bytes.{kind_field, u16_at, u32_at, u8_at}
 use Rattle.rules.specs.Records.{FourBytes}

@@ -1,4 +1,5 @@
 -- The records of a set: each is of a kind and length of the set, and tells what it was made of.
+use Rattle.std.specs.Prelude.{if◌then◌else◌}
 use mathlib.Core.Path.{◌≡◌, refl, sym}
 use mathlib.Core.Bool.{Bool, true, false, ◌&&◌}
 use mathlib.Core.List.{[], ◌++◌}
@@ -12,7 +13,6 @@ use Rattle.rules.specs.declared.Legging.{Legging}
 use Rattle.rules.specs.declared.Listed.{Listed}
 use Rattle.rules.specs.declared.Edition.{Edition}
 use Rattle.rules.specs.declared.Message.TheVariants.{Away, Status}
-use Rattle.rules.specs.Base.{if◌then◌else◌}
 use Rattle.rules.specs.Words.{is_series, one_to_one, within}
 use Rattle.rules.specs.Settings.{is_increment, is_percent, percentage}
 use Rattle.rules.specs.Bytes.{u8_at, u16_at, u32_at, length_field, kind_field, bytes, u8, u32, framed}

@@ -1,4 +1,5 @@
 -- Bytes back: a record of whole bytes is spelled by what is read at its places.
+use Rattle.std.specs.Prelude.{if◌then◌else◌}
 use mathlib.Core.Path.{◌≡◌, refl, sym, ap, ap₂, ◌∙◌}
 use mathlib.Core.Bool.{Bool, true, false}
 use mathlib.Core.List.{List, [], ◌∷◌, ◌++◌, append_assoc, append-nil}
@@ -10,7 +11,6 @@ use lib.ListN.{drop, get_or, length, length-append, length-drop}
 use lib.Seq.{drop-drop, drop-length, get_or-drop}
 use borrow.Author.Tests.{leb-true, ne_eqb}
 use Rattle.rules.specs.declared.Message.TheVariants.{Away, Status}
-use Rattle.rules.specs.Base.{if◌then◌else◌}
 use Rattle.rules.specs.Words.{is_series, one_to_one, within}
 use Rattle.rules.specs.Bytes.{as_signed, as_unsigned, bytes, framed, kind_field, length_field, u16, u16_at, u32, u32_at, u8, u8_at}
 use Rattle.rules.specs.Messages.{encode_message, order_at, order_fields, two_leg_at, two_leg_fields}

@@ -1,4 +1,5 @@
 -- Writing what was read from a whole set gives its records back.
+use Rattle.std.specs.Prelude.{if◌then◌else◌}
 use mathlib.Core.Path.{◌≡◌, refl, sym, ap, subst, ◌∙◌}
 use mathlib.Core.Bool.{Bool, true, false, not, ◌&&◌, ◌||◌, false≢true}
 use mathlib.Core.List.{List, [], ◌∷◌, ◌++◌, append-nil, map}
@@ -9,7 +10,7 @@ use lib.ListN.{get_or, length, take}
 use borrow.Author.Tests.{eqb-false, eqb-true, le-ltb}
 use Rattle.rules.specs.declared.Listed.{Listed}
 use Rattle.rules.specs.declared.Message.TheVariants.{Away, Status}
-use Rattle.rules.specs.Base.{if◌then◌else◌, all, held, keep}
+use Rattle.rules.specs.Base.{all, held, keep}
 use Rattle.rules.specs.Words.{no_complex, no_edition, no_regular, not_listed}
 use Rattle.rules.specs.Bytes.{kind_field, u32_at, u8_at}
 use Rattle.rules.specs.Messages.{encode_message}

@@ -1,4 +1,5 @@
 -- The set of a venue that may be carried: its parts, that it is a set, and that all of it has a place.
+use Rattle.std.specs.Prelude.{if◌then◌else◌}
 use mathlib.Core.Path.{◌≡◌, refl, ap, ◌∙◌}
 use mathlib.Core.Bool.{Bool, true, false, ◌&&◌}
 use mathlib.Core.List.{List, [], ◌∷◌, ◌++◌, append_assoc, append-nil, map}
@@ -13,7 +14,7 @@ use Rattle.rules.specs.declared.Edition.{Edition}
 use Rattle.rules.specs.declared.Legging.{Legging}
 use Rattle.rules.specs.declared.Listed.{Listed}
 use Rattle.rules.specs.declared.Venue.{Venue}
-use Rattle.rules.specs.Base.{if◌then◌else◌, all, held, keep}
+use Rattle.rules.specs.Base.{all, held, keep}
 use Rattle.rules.specs.Words.{no_generations}
 use Rattle.rules.specs.Bytes.{framed, u32}
 use Rattle.rules.specs.Generation.{generations_of}

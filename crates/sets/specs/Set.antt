@@ -1,6 +1,6 @@
 -- Document 02 (h), "Carry a day over an upgrade": "A call writes a venue and its message number as length-first records into lent memory, and another
 -- reads them back". With what (m) adds to the set: generations, and the id reached. A record is its bytes.
-use Rattle.std.specs.Prelude.{Bool, true, false, not, ◌&&◌, ◌||◌, List, [], ◌∷◌, ◌++◌, map, ℕ, zero, suc, ◌+◌, ◌-◌, ◌*◌, leb, ltb, eqb, length, get_or, take, drop, replicate}
+use Rattle.std.specs.Prelude.{Bool, true, false, not, ◌&&◌, ◌||◌, List, [], ◌∷◌, ◌++◌, map, ℕ, zero, suc, ◌+◌, ◌-◌, ◌*◌, leb, ltb, eqb, length, get_or, take, drop, replicate, if◌then◌else◌}
 use Rattle.rules.specs.declared.Regular.{Regular}
 use Rattle.rules.specs.declared.Complex.{Complex}
 use Rattle.rules.specs.declared.Legging.{Legging}
@@ -9,7 +9,7 @@ use Rattle.rules.specs.declared.Edition.{Edition}
 use Rattle.rules.specs.declared.Generations.{Generations}
 use Rattle.rules.specs.declared.Venue.{Venue}
 use Rattle.rules.specs.declared.Message.TheVariants.{TwoLeg, Away, Status}
-use Rattle.rules.specs.Base.{if◌then◌else◌, held, all, keep}
+use Rattle.rules.specs.Base.{held, all, keep}
 use Rattle.rules.specs.Words.{is_series, is_side, one_to_one, no_regular, no_complex, no_legging, no_edition, place_of, fresh_venue}
 use Rattle.rules.specs.Settings.{percentage}
 use Rattle.rules.specs.Bytes.{u8_at, u32_at, length_field, kind_field, u8, u32, framed}

@@ -1,7 +1,7 @@
 -- A figure in force at a message number, in a row of editions.
-use Rattle.std.specs.Prelude.{◌&&◌, List, ℕ, leb}
+use Rattle.std.specs.Prelude.{◌&&◌, List, ℕ, leb, if◌then◌else◌}
 use Rattle.rules.specs.declared.Edition.{Edition}
-use Rattle.rules.specs.Base.{if◌then◌else◌, keep}
+use Rattle.rules.specs.Base.{keep}
 use Rattle.rules.specs.Settings.{base_figure, sets, last_value}
 
 -- x, or the value of an edition of the figure whose message is numbered no higher

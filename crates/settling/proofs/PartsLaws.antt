@@ -1,4 +1,5 @@
 -- Laws of the standing test, as the code makes it.
+use Rattle.std.specs.Prelude.{if◌then◌else◌}
 use mathlib.Core.Path.{◌≡◌, refl, sym, ap, ap₂, ◌∙◌}
 use mathlib.Core.Bool.{Bool, true, false, not, ◌&&◌, true≢false}
 use Prim.Native.Nat.{ℕ, ◌<◌, ◌/◌, ◌%◌}
@@ -13,7 +14,6 @@ use Rattle.rules.specs.declared.Leg.{Leg}
 use Rattle.rules.specs.declared.Venue.{Venue}
 use Rattle.rules.specs.declared.Verdict.{Verdict}
 use Rattle.rules.specs.declared.Verdict.TheVariants.{Stands}
-use Rattle.rules.specs.Base.{if◌then◌else◌}
 use Rattle.rules.specs.Words.{opposite, sign_times}
 use Rattle.rules.specs.Settings.{increment}
 use Rattle.rules.specs.Prices.{better, best_regular, displayed_price, clear_price, weighed}

@@ -1,7 +1,6 @@
 -- Parts of the test that a function of their own decides.
-use Rattle.std.specs.Prelude.{not, ℕ, eqb}
+use Rattle.std.specs.Prelude.{not, ℕ, eqb, if◌then◌else◌}
 use Rattle.rules.specs.declared.Complex.{Complex}
-use Rattle.rules.specs.Base.{if◌then◌else◌}
 use Rattle.places.specs.declared.Level.{Level}
 use Rattle.levels.specs.declared.TakenLevels.{TakenLevels}
 

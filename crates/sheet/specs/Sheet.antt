@@ -1,8 +1,7 @@
 -- Document 01, "Trials": "The printing program reads a message file on standard input, its first 65,536 bytes at most, and prints a line per record of
 -- a run whose report memory never fills".
-use Rattle.std.specs.Prelude.{◌≡◌, ◌≢◌, List, [], ◌++◌, ℕ, suc, ◌*◌, ◌≤◌, ◌<◌, eqb, length, take, drop}
+use Rattle.std.specs.Prelude.{◌≡◌, ◌≢◌, List, [], ◌++◌, ℕ, suc, ◌*◌, ◌≤◌, ◌<◌, eqb, length, take, drop, if◌then◌else◌}
 use Rattle.rules.specs.declared.Venue.{Venue}
-use Rattle.rules.specs.Base.{if◌then◌else◌}
 use Rattle.rules.specs.Bytes.{length_field}
 use Rattle.rules.specs.Words.{fresh_venue}
 use Rattle.rules.specs.Records.{records}

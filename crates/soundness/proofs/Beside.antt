@@ -1,4 +1,5 @@
 -- Laws of what is asked of orders beside one another, as the code tests it.
+use Rattle.std.specs.Prelude.{if◌then◌else◌}
 use mathlib.Core.Path.{◌≡◌, refl, sym, ap, ap₂, ◌∙◌}
 use mathlib.Core.Bool.{Bool, true, false, not, ◌&&◌, ◌||◌}
 use mathlib.Core.List.{List, [], ◌∷◌, ◌++◌}
@@ -13,7 +14,7 @@ use Rattle.rules.specs.declared.Complex.{Complex}
 use Rattle.rules.specs.declared.Legging.{Legging}
 use Rattle.rules.specs.declared.Edition.{Edition}
 use Rattle.rules.specs.declared.Venue.{Venue}
-use Rattle.rules.specs.Base.{if◌then◌else◌, held, all}
+use Rattle.rules.specs.Base.{held, all}
 use Rattle.rules.specs.Words.{no_regular, is_id, is_price, is_quantity, one_to_one}
 use Rattle.rules.specs.Settings.{increment}
 use Rattle.rules.specs.Prices.{best_own}

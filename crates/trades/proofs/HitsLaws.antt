@@ -1,4 +1,5 @@
 -- Laws of pairs, hits and cancels, for the code that does them step by step.
+use Rattle.std.specs.Prelude.{if◌then◌else◌}
 use mathlib.Core.Path.{◌≡◌, refl, sym, ap, ◌∙◌}
 use mathlib.Core.Bool.{Bool, true, false, true≢false}
 use mathlib.Core.List.{List, [], ◌∷◌}
@@ -14,7 +15,7 @@ use Rattle.rules.specs.declared.Legging.{Legging}
 use Rattle.rules.specs.declared.Leg.{Leg}
 use Rattle.rules.specs.declared.Venue.{Venue}
 use Rattle.rules.specs.declared.Cause.TheVariants.{Executed, Withdrawn}
-use Rattle.rules.specs.Base.{if◌then◌else◌, place_where}
+use Rattle.rules.specs.Base.{place_where}
 use Rattle.rules.specs.Words.{opposite, sign_times, no_complex, regular_at, complex_at, with_complex, is_complex_of}
 use Rattle.rules.specs.Prices.{weighed, clear_price}
 use Rattle.rules.specs.Records.{Report, trade, pair, cancelled}

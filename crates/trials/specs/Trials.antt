@@ -1,6 +1,6 @@
 -- Document 01, "Trials", but for the starred ones (rules Trials): the printed session, the wrongs named there, sessions for what these and the theorems
 -- leave open, and the sessions of requests.
-use Rattle.std.specs.Prelude.{true, false, not, ◌≡◌, refl, List, [], ◌∷◌, ◌++◌, map, ℕ, zero, suc, ◌+◌, ◌-◌, ℤ, pos, neg_ℤ, set, drop, length, replicate}
+use Rattle.std.specs.Prelude.{true, false, not, ◌≡◌, refl, List, [], ◌∷◌, ◌++◌, map, ℕ, zero, suc, ◌+◌, ◌-◌, ℤ, pos, neg_ℤ, set, drop, length, replicate, if◌then◌else◌}
 use Rattle.std.proofs.Common.{sym, ap₂, ◌∙◌}
 use Rattle.std.proofs.lemmas.List.{map-append}
 use Rattle.rules.specs.declared.Regular.{Regular}
@@ -16,7 +16,6 @@ use Rattle.rules.specs.declared.Message.{Message}
 use Rattle.rules.specs.declared.Message.TheVariants.{Order, TwoLeg, Cancel, Away, Status, Sweep, Increment, Percent, LimitedSweep}
 use Rattle.rules.specs.declared.Cause.TheVariants.{Worse, Unpaired, Executed, Withdrawn, OutOfBand, NotOpen, Replaced, Touched, NoUnit}
 use Rattle.rules.specs.declared.Verdict.TheVariants.{Stands, Fails}
-use Rattle.rules.specs.Base.{if◌then◌else◌}
 use Rattle.rules.specs.Words.{buy, sell, closed, opened, no_regular, no_complex, no_legging, not_listed, no_edition, fresh_venue, with_regular, with_complex, with_legging, with_series, with_editions, with_last, with_reached}
 use Rattle.rules.specs.Settings.{is_increment}
 use Rattle.rules.specs.Messages.{length_of, encode_message}

@@ -1,12 +1,11 @@
 -- The claims are not empty: a list of calls in which legging orders are made, hit in part, paired, crossed, withdrawn, removed for each of the
 -- causes 1 to 8 and 10, and stand at the end; in which an order trades what it shows and then of its reserve, and shows again; with calls that end early.
 -- Given by computation.
-use Rattle.std.specs.Prelude.{◌≡◌, List, [], ◌++◌, ◌∷◌, ℕ, ◌-◌, eqb, negsuc, pos, ℤ, get_or}
+use Rattle.std.specs.Prelude.{◌≡◌, List, [], ◌++◌, ◌∷◌, ℕ, ◌-◌, eqb, negsuc, pos, ℤ, get_or, if◌then◌else◌}
 use Rattle.rules.specs.declared.Cause.TheVariants.{Executed}
 use Rattle.rules.specs.declared.Message.{Message}
 use Rattle.rules.specs.declared.Message.TheVariants.{Away, Cancel, Order, Status, Sweep, TwoLeg}
 use Rattle.rules.specs.declared.Venue.{Venue}
-use Rattle.rules.specs.Base.{if◌then◌else◌}
 use Rattle.rules.specs.Words.{legging_at, no_regular, regular_at}
 use Rattle.rules.specs.Messages.{encode_message}
 use Rattle.rules.specs.Records.{Report, answer, cancelled, cause_number, crossed, generated, looked, pair, removed, trade}

@@ -1,4 +1,5 @@
 -- Legging in, test by test and step by step.
+use Rattle.std.specs.Prelude.{if◌then◌else◌}
 use mathlib.Core.Path.{◌≡◌, refl, sym, ap, ap₂, ◌∙◌}
 use mathlib.Core.Bool.{Bool, true, false, not, ◌&&◌}
 use mathlib.Core.List.{List}
@@ -9,7 +10,7 @@ use lib.IntN.{ℤ, ◌+ℤ◌}
 use lib.Signed.{le_z, lt_z}
 use Rattle.rules.specs.declared.Complex.{Complex}
 use Rattle.rules.specs.declared.Venue.{Venue}
-use Rattle.rules.specs.Base.{if◌then◌else◌, held}
+use Rattle.rules.specs.Base.{held}
 use Rattle.rules.specs.Words.{opposite, complex_at}
 use Rattle.rules.specs.Prices.{best_regular, weighed, net, in_band}
 use Rattle.rules.specs.Effects.{Effect, ◌⟫◌, Turn, ended, turned}
