@@ -1,14 +1,22 @@
 // The printing program: reads messages on standard input, its first 65,536 bytes at most, and prints the sheet of a run over them, a line per record.
-ghost use Rattle.std.specs.Prelude.{◌≡◌, ◌≤◌, length};
-ghost use Rattle.sheet.specs.Sheet.{Prints, message_end, most_input, started};
+#![tactic(auto)]
+
+ghost use Rattle.std.specs.Prelude.{◌≡◌, ◌≤◌, [], length, IsTrue, OnOk};
+ghost use Rattle.std.specs.Io.KnownBytes.{Appends};
+ghost use Rattle.sheet.specs.Sheet.{Prints, message_end, most_input, sheet_text, started};
 ghost use Rattle.sheet.specs.Inputs.{ReadInto};
+ghost use Rattle.sheet.specs.Streams.{PrintsInput, ReadFrom, name_line};
 ghost use Rattle.sheet.specs.Requirements.{LineRoom};
 
 use rules::Venue;
+use std::env::FillError;
+use std::io::{Read, Write};
+use std::rt::{Env, Files};
+use std::{fs, io};
 
 // How far the printing has come: how the last message's call went, the messages done and the bytes that they took, the bytes of the last
 // message's text, and the venue after it.
-#[derive(Drop)]
+#[derive(Clone, Copy)]
 struct Progress {
     number: u8,
     done: u32,
@@ -64,20 +72,24 @@ fn advance(p: Progress, messages: &[u8], report: &mut [u8], text: &mut [u8]) -> 
 
 // Reading and printing ------------------------------------------------------------------------
 
-// No contract of `io` says which bytes are read or written, so none below does. What they are is in the code: each message's text, once, in order.
+// A clause names bytes only where a reader or a writer tells them, as one over memory does. Of the system's files and streams nothing is known.
 
-// A line on standard error: the call of the message after `done` others answered `number`, so the sheet ends before it.
-fn complain(done: u32, number: u8) {
-    io::write_all(libc::STDERR_FILENO, b"sheet: after message ");
-    io::print_decimal(libc::STDERR_FILENO, done as u64);
-    io::write_all(libc::STDERR_FILENO, b" a call answered ");
-    io::print_decimal(libc::STDERR_FILENO, number as u64);
-    io::write_all(libc::STDERR_FILENO, b": the sheet ends there\n");
+// A line on standard error: the call of the message after `done` others answered `number`, so the sheet ends before it. An error of that stream is let go.
+fn complain(rt: &impl Eprint, done: u32, number: u8) {
+    let _ = eprintln!(rt;
+        "sheet: after message {done} a call answered {number}: the sheet ends there"
+    );
+}
+
+// A line on standard error: what failed, and why. An error of that stream is let go.
+fn fail(rt: &impl Eprint, what: &str, error: io::Error) {
+    let _ = eprintln!(rt; "{what}: {error}");
 }
 
 // Prints the sheet of a message list, and answers whether all of it was written.
-fn print_list(messages: &[u8]) -> bool
+fn print_list<W: Write>(rt: &impl Eprint, out: &mut W, messages: &[u8]) -> bool
     requires { length messages.now ≤ most_input }
+    ensures { IsTrue result → Appends (W.contents out.old) (W.contents out.new) (sheet_text messages.now) }
 {
     let mut report = [0u8; 10433];
     let mut text = [0u8; 26083];
@@ -86,12 +98,12 @@ fn print_list(messages: &[u8]) -> bool
         let done = p.done;
         p = advance(p, messages, &mut report, &mut text);
         if p.done == done {
-            complain(p.done, p.number);
+            complain(rt, p.done, p.number);
             return false;
         }
         let written = p.written;
-        if !io::write_all(libc::STDOUT_FILENO, &text[..written]) {
-            os::fail(b"sheet: standard output");
+        if let Err(error) = out.write_all(&text[..written]) {
+            fail(rt, "sheet: standard output", error);
             return false;
         }
     }
@@ -99,92 +111,112 @@ fn print_list(messages: &[u8]) -> bool
 }
 
 // What came of reading: so many bytes, or an error.
-#[derive(Drop)]
+#[derive(Clone, Copy)]
 enum Input {
     Bytes(usize),
     Failed,
 }
 
-// Reads until `buf` is full or the input ends.
-fn read_input(fd: i32, buf: &mut [u8]) -> Input
-    ensures { ReadInto result (length buf.new) }
+// Reads until `buf` is full or the input ends. An error is told, by the input's name.
+fn read_input<R: Read>(rt: &impl Eprint, reader: &mut R, name: &str, buf: &mut [u8]) -> Input
+    ensures within { ReadInto result (length buf.new) }
+    ensures bytes { ReadFrom (R.remaining reader.old) (R.remaining reader.new) buf.new result }
 {
     let mut done = 0;
     while done < buf.len() {
-        let got = libc::read(fd, &mut buf[done..]);
-        if got < 0 {
-            return Input::Failed;
+        match reader.read(&mut buf[done..]) {
+            Ok(0) => break,
+            Ok(more) => done += more,
+            Err(error) => {
+                fail(rt, name, error);
+                return Input::Failed;
+            }
         }
-        let more = io::count(got, &buf[done..]);
-        if more == 0 {
-            break;
-        }
-        done += more;
     }
     Input::Bytes(done)
 }
 
 // Prints the sheet of an input, whose name is for the error message.
-fn print_input(fd: i32, name: &[u8]) -> bool {
-    let mut input = io::large_buffer();
-    let found = read_input(fd, &mut input);
+fn print_input<R: Read, W: Write>(rt: &impl Eprint, reader: &mut R, out: &mut W, name: &str) -> bool
+    ensures { IsTrue result → PrintsInput [] (R.remaining reader.old) (W.contents out.old) (W.contents out.new) }
+{
+    let mut input = [0u8; 65536];
+    let found = read_input(rt, reader, name, &mut input);
     let Input::Bytes(n) = found else {
-        os::fail(name);
         return false;
     };
-    print_list(&input[..n])
+    print_list(rt, out, &input[..n])
 }
 
 // A line that names a file.
-fn print_name(name: &[u8]) -> bool {
-    if !io::write_all(libc::STDOUT_FILENO, b"# ") {
-        return false;
-    }
-    if !io::write_all(libc::STDOUT_FILENO, name) {
-        return false;
-    }
-    io::write_all(libc::STDOUT_FILENO, b"\n")
+fn print_name<W: Write>(out: &mut W, name: &str) -> io::Result<()>
+    ensures { OnOk result (Appends (W.contents out.old) (W.contents out.new) (name_line name.now)) }
+{
+    writeln!(out, "# {name}")
 }
 
 // That line, and the file's sheet.
-fn print_named(fd: i32, name: &[u8]) -> bool {
-    if !print_name(name) {
-        os::fail(b"sheet: standard output");
+fn print_named<R: Read, W: Write>(rt: &impl Eprint, reader: &mut R, out: &mut W, name: &str) -> bool
+    ensures { IsTrue result → PrintsInput (name_line name.now) (R.remaining reader.old) (W.contents out.old) (W.contents out.new) }
+{
+    if let Err(error) = print_name(out, name) {
+        fail(rt, "sheet: standard output", error);
         return false;
     }
-    print_input(fd, name)
+    print_input(rt, reader, out, name)
+}
+
+// The same of the file that a name reaches.
+fn print_path<W: Write>(rt: &(impl Files + Eprint), out: &mut W, name: &str) -> bool {
+    match fs::open(rt, name) {
+        Ok(mut file) => print_named(rt, &mut file, out, name),
+        Err(error) => {
+            fail(rt, name, error);
+            false
+        }
+    }
+}
+
+// A line on standard error: why an argument names no file.
+fn refuse(rt: &impl Eprint, why: &str) {
+    let _ = eprintln!(rt; "sheet: argument: {why}");
 }
 
 // The same of the file that an argument names.
-fn print_file(i: usize) -> bool {
-    let mut name = io::buffer();
-    let n = os::arg(i, &mut name);
-    if os::errno() != 0 {
-        os::fail(b"sheet: argument");
+fn print_file<W: Write>(rt: &(impl Files + Env + Eprint), out: &mut W, i: usize) -> bool {
+    let mut memory = [0u8; 4096];
+    let Ok(n) = rt.arg(i, &mut memory) else {
+        refuse(rt, "File name too long");
         return false;
+    };
+    match str::from_utf8(&memory[..n]) {
+        Ok(name) => print_path(rt, out, name),
+        Err(_) => {
+            refuse(rt, "not UTF-8");
+            false
+        }
     }
-    let fd = os::open_read(&name[..n]);
-    if fd < 0 {
-        os::fail(&name[..n]);
-        return false;
-    }
-    let is_whole = print_named(fd, &name[..n]);
-    libc::close(fd);
-    is_whole
+}
+
+// Whether the program was started with an argument at a place, its own name being at 0.
+fn has_argument(rt: &impl Env, i: usize) -> bool {
+    !matches!(rt.arg(i, &mut []), Err(FillError::NotPresent))
 }
 
 // With no argument, the sheet of standard input; otherwise that of each file named, until one fails.
-fn main() {
-    let count = os::arg_count();
-    if count <= 1 {
-        print_input(libc::STDIN_FILENO, b"sheet: standard input");
+fn main(rt: HostRuntime) {
+    let mut out = rt.stdout();
+    if !has_argument(&rt, 1) {
+        let mut input = rt.stdin();
+        print_input(&rt, &mut input, &mut out, "sheet: standard input");
         return;
     }
-    let mut i = 1;
-    while i < count {
-        if !print_file(i) {
+    for i in 1..usize::MAX {
+        if !has_argument(&rt, i) {
             return;
         }
-        i += 1;
+        if !print_file(&rt, &mut out, i) {
+            return;
+        }
     }
 }

@@ -1,5 +1,5 @@
 -- The messages of a session, put one after another.
-use mathlib.Core.Path.{◌≡◌, refl, sym, ap, ap₂, ◌∙◌, subst}
+use mathlib.Core.Path.{◌≡◌, refl, ap, ap₂, ◌∙◌, subst}
 use mathlib.Core.List.{List, [], ◌∷◌, ◌++◌, append_assoc, append-nil}
 use Prim.Native.Nat.{ℕ, suc, ◌+◌, ◌*◌, ◌≤◌, ◌<◌}
 use native.Mathlib.Omega.{arith}
@@ -7,8 +7,6 @@ use lib.ListN.{length, take}
 use Rattle.records.specs.Seen.{Seen, ◌plus◌, pasted, seen}
 use Rattle.records.proofs.SeenLaws.{pasted_length, pasted-to, plus-in}
 use Rattle.short_sessions.specs.Sessions.{Within}
-use Rattle.short_sessions.specs.declared.Session.{Session}
-use Rattle.short_sessions.specs.Values.{places_of}
 use Rattle.short_sheets.specs.Short.{Stands, message_at, messages_of}
 use Rattle.short_sheets.proofs.Listed.{listed}
 

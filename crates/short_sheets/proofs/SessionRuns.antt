@@ -14,12 +14,11 @@ use Rattle.rules.specs.declared.Decoded.TheVariants.{Taken, Refused}
 use Rattle.rules.specs.Bytes.{length_field}
 use Rattle.rules.specs.Messages.{message_of}
 use Rattle.rules.specs.Words.{fresh_venue}
-use Rattle.rules.specs.Records.{ForAll, Fits, encode_all, records}
-use Rattle.rules.specs.Refusals.{decoded, refusal, refusal_of, torn}
+use Rattle.rules.specs.Records.{ForAll, Fits, encode_all}
+use Rattle.rules.specs.Refusals.{refusal, refusal_of}
 use Rattle.rules.specs.Step.{answered, step}
 use Rattle.rules.specs.Calls.{Call, Outcome, after, called, ends, run, run_from}
-use Rattle.rules.proofs.CallsLaws.{not-exceeds, run_none, run_room, run_from-by}
-use Rattle.rules.proofs.Reading.{reads-back}
+use Rattle.rules.proofs.CallsLaws.{not-exceeds, run_none, run_from-by}
 use Rattle.rules.proofs.RefusalsLaws.{decoded-by, refusal_of-by, whole_in}
 use Rattle.rules.proofs.Widths.{each_append}
 use Rattle.demands.specs.Soundness.{SoundAt}

@@ -1,16 +1,16 @@
 -- The text of a session fits its memory.
 use mathlib.Core.Path.{◌≡◌, refl, sym, ap, ◌∙◌}
 use mathlib.Core.List.{List, [], ◌∷◌, ◌++◌, map}
-use Prim.Native.Nat.{ℕ, suc, ◌+◌, ◌*◌, ◌≤◌, ◌<◌}
+use Prim.Native.Nat.{ℕ, suc, ◌+◌, ◌*◌, ◌≤◌}
 use native.Mathlib.Omega.{arith}
 use lib.ListN.{length, length-append}
 use Rattle.rules.specs.Words.{fresh_venue}
-use Rattle.rules.specs.Records.{Report, records}
+use Rattle.rules.specs.Records.{records}
 use Rattle.rules.specs.Calls.{called, run, run_from}
 use Rattle.rules.proofs.CallsLaws.{run_room}
 use Rattle.rules.proofs.Reading.{reads-back}
 use Rattle.records.specs.Seen.{Seen, seen}
-use Rattle.text.specs.Lines.{decimal, line, text_of, word, words}
+use Rattle.text.specs.Lines.{line, text_of, word, words}
 use Rattle.text.specs.Typing.{◌types◌}
 use Rattle.text.proofs.TypingLaws.{types-append, types-fits}
 use Rattle.text.proofs.WidthsLaws.{text-at-most}

@@ -1,14 +1,19 @@
 // Prints every session of at most three messages from a fixed list of twelve: the places of its messages, then the sheet of its run.
-ghost use Rattle.std.specs.Prelude.{◌≡◌, suc, ◌-◌, ◌≤◌, ◌<◌, length, take, drop};
+#![tactic(auto)]
+
+ghost use Rattle.std.specs.Prelude.{◌≡◌, suc, ◌-◌, ◌≤◌, ◌<◌, length, take, drop, OnOk};
+ghost use Rattle.std.specs.Io.KnownBytes.{Appends};
 ghost use Rattle.rules.specs.Calls.{run};
 ghost use Rattle.records.specs.Seen.{seen, ◌plus◌};
 ghost use Rattle.text.specs.Typing.{◌types◌};
-ghost use Rattle.short_sessions.specs.Sessions.{Within};
+ghost use Rattle.short_sessions.specs.Sessions.{Within, sessions};
 ghost use Rattle.short_sessions.specs.Values.{places_of};
-ghost use Rattle.short_sheets.specs.Short.{Stands, message_at, messages_of, places_line, session_text};
+ghost use Rattle.short_sheets.specs.Short.{Stands, message_at, messages_of, places_line, session_text, texts_of};
 ghost use Rattle.short_sheets.specs.Requirements.{MessagesRoom, SessionRoom};
 
 use short_sessions::{Found, Session};
+use std::io;
+use std::io::Write;
 
 // The messages of a session -------------------------------------------------------------------
 
@@ -116,22 +121,29 @@ fn put_session(s: Session, report: &mut [u8], text: &mut [u8]) -> usize
 
 // Printing ------------------------------------------------------------------------------------
 
-// Prints every session. No contract of `io` says which bytes are written, so none here does. What they are is in the code: each session's text, once, in order.
-fn main() {
+// Prints every session: each one's text, once, in order. Where the writer tells its bytes, these are what it took.
+fn print_sessions<W: Write>(out: &mut W) -> io::Result<()>
+    ensures { OnOk result (Appends (W.contents out.old) (W.contents out.new) (texts_of (sessions 12))) }
+{
     let mut report = [0u8; 31299];
     let mut text = [0u8; 78256];
     let mut memory = [0u8; 4];
     let mut s = short_sessions::empty();
     loop {
         let written = put_session(s, &mut report, &mut text);
-        if !io::write_all(libc::STDOUT_FILENO, &text[..written]) {
-            os::fail(b"short: standard output");
-            return;
-        }
+        out.write_all(&text[..written])?;
         let after = short_sessions::advance(12, &mut memory);
         let Found::Is(t) = after else {
-            return;
+            return Ok(());
         };
         s = t;
+    }
+}
+
+// No clause says which bytes standard output takes, so none here does. A failed write is told on standard error, and an error there is let go.
+fn main(rt: HostRuntime) {
+    let mut out = rt.stdout();
+    if let Err(error) = print_sessions(&mut out) {
+        let _ = eprintln!(rt; "short: standard output: {error}");
     }
 }
