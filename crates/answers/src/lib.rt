@@ -1,4 +1,6 @@
 // A message's answer: a refusal alone, or the record that is written first and set when all that the message does is done.
+#![tactic(auto)]
+
 ghost use Rattle.rules.specs.Effects.{nothing};
 ghost use Rattle.rules.specs.Step.{answered};
 ghost use Rattle.places.specs.Layout.{venue_of};
@@ -6,7 +8,7 @@ ghost use Rattle.answers.specs.Steps.{Finishes, Steps};
 ghost use Rattle.places.specs.Requirements.{RightNumbers, DenseNumbers};
 
 // A message's refusal (0: accepted), and the position after its records.
-#[derive(Drop)]
+#[derive(Clone, Copy)]
 pub struct Stepped {
     pub refused: u8,
     pub written: usize,

@@ -1,5 +1,7 @@
 // Scans of the places in use: who is met or taken first, and where an order rests; and how many legging places are filled.
 // Ids rise with the places, so that the first of the places is the earliest, and an id is found by halves.
+#![tactic(auto)]
+
 ghost use Rattle.std.specs.Prelude.{◌≡◌, length};
 ghost use Rattle.std.specs.Int.Count.{ones};
 ghost use Rattle.rules.specs.declared.Regular.{Regular};
@@ -14,14 +16,14 @@ ghost use Rattle.places.specs.Requirements.{RightNumbers, DenseNumbers, RightSer
 use rules::Regular;
 
 // A regular order picked, with its place.
-#[derive(Drop)]
+#[derive(Clone, Copy)]
 pub enum Pick {
     Nobody,
     At(usize, Regular),
 }
 
 // The place of an order.
-#[derive(Drop)]
+#[derive(Clone, Copy)]
 pub enum Found {
     At(usize),
     Nothing,

@@ -1,4 +1,6 @@
 // Complex orders with one another: who crosses with whom, and who first.
+#![tactic(auto)]
+
 ghost use Rattle.std.specs.Prelude.{◌≡◌, ◌&&◌, ◌||◌, ◌≤◌, ◌<◌, eqb, ℤ, pos, nat_abs, neg_ℤ, ◌+ℤ◌, if◌then◌else◌};
 ghost use Rattle.std.specs.Int.Signed.{le_z};
 ghost use Rattle.rules.specs.declared.Venue.{Venue};
@@ -15,7 +17,7 @@ use levels::TakenLevels;
 use rules::Complex;
 
 // A complex order with its place, or none.
-#[derive(Drop)]
+#[derive(Clone, Copy)]
 pub enum Maker {
     Nobody,
     At(usize, Complex),

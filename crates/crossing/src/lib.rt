@@ -1,4 +1,6 @@
 // Complex orders with one another: the cross, and the touch of legging orders.
+#![tactic(auto)]
+
 ghost use Rattle.std.specs.Prelude.{◌≡◌, pos, if◌then◌else◌};
 ghost use Rattle.rules.specs.declared.Cause.TheVariants.{Touched, NoUnit};
 ghost use Rattle.rules.specs.Base.{first};

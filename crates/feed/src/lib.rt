@@ -1,5 +1,7 @@
 // Two lines of one feed: 21's test of a line, what comes of the next number, and its message as a part of the line that has it. Both lines are only read,
 // and no message is copied. Each line is passed once by the test and once by the handing out, and a message that both have is compared once.
+#![tactic(auto)]
+
 ghost use Rattle.std.specs.Prelude.{◌≡◌, ◌&&◌, leb, ℕ, suc, ◌+◌, ◌≤◌, ◌<◌, length, drop};
 ghost use Rattle.rules.specs.Bytes.{u16_at};
 ghost use Rattle.feed.specs.Feed.{number_of, message_in, faultless, same};
@@ -97,7 +99,7 @@ pub fn at_ends(main: &[u8], at: usize, spare: &[u8], other: usize) -> bool
 }
 
 // The number that comes up, and what stops it: 19, 20, or 0 where its message is handed out.
-#[derive(Drop)]
+#[derive(Clone, Copy)]
 pub struct Up {
     pub number: u32,
     pub stopped: u8,

@@ -1,4 +1,6 @@
 // Generation of legging orders.
+#![tactic(auto)]
+
 ghost use Rattle.std.specs.Prelude.{◌≡◌, ◌≤◌, ◌<◌, min, nat_abs, length};
 ghost use Rattle.rules.specs.Words.{sign_times, legging_at};
 ghost use Rattle.rules.specs.Settings.{increment};

@@ -32,8 +32,8 @@ opposite-side d f e = rw e (opposite-in d)
 
 -- what a look at the grid finds
 module _ (g : List (List Level)) (os : List Regular) (h : GridOf g os) (c : Complex) (k : LegsIn c) where
-  taken_in : TakenOf (taken_in g c) c os
-  taken_in = record {
+  taken-in : TakenOf (taken_in g c) c os
+  taken-in = record {
     first = h c.series1 (opposite c.side1) k.first (opposite-in c.side1);
     second = h c.series2 (opposite c.side2) k.second (opposite-in c.side2);
   }
@@ -45,7 +45,7 @@ module _ (g : List (List Level)) (os : List Regular) (h : GridOf g os) (c : Comp
       (record {
         own = ap (λ (l : Level). l.price) (h s d hs hd);
         facing = ap (λ (l : Level). l.price) (h s (opposite d) hs (opposite-in d));
-        taken = taken_in;
+        taken = taken-in;
       })
 
 -- and what it says of the sides

@@ -1,4 +1,6 @@
 // The levels of the regular orders, a price and a size for each side of a series: how they are kept and read; and which price is better, or reached.
+#![tactic(auto)]
+
 ghost use Rattle.std.specs.Prelude.{◌≡◌, suc, ◌≤◌, length};
 ghost use Rattle.rules.specs.Prices.{better, reaches, best_regular};
 ghost use Rattle.rules.specs.Trading.{fill_regular, put_regular};
@@ -188,14 +190,14 @@ pub fn levels(numbers: &[u32]) -> [[Level; 2]; 8]
 }
 
 // The levels that the legs of a complex order take.
-#[derive(Drop)]
+#[derive(Clone, Copy)]
 pub struct TakenLevels {
     pub first: Level,
     pub second: Level,
 }
 
 // What the test of a leg asks of the regular orders: the best price of its own side and of the side that faces it, and the levels that the legs of its order take.
-#[derive(Drop)]
+#[derive(Clone, Copy)]
 pub struct LegSides {
     pub own: u32,
     pub facing: u32,

@@ -1,5 +1,7 @@
 // An entering order: whom it meets, turn by turn.
 // Each function says in one equation the venue that it leaves and all that it writes: those of its definition.
+#![tactic(auto)]
+
 ghost use Rattle.std.specs.Prelude.{◌≡◌, suc};
 ghost use Rattle.rules.specs.Words.{opposite, legging_at};
 ghost use Rattle.rules.specs.Effects.{repeat};
@@ -16,7 +18,7 @@ use book::Pick;
 use rules::{Legging, Regular};
 
 // What the order at a place does next.
-#[derive(Drop)]
+#[derive(Clone, Copy)]
 pub enum Plan {
     Ended,
     Hit(Legging, u32),

@@ -1,4 +1,6 @@
 // One message upon the venue in its slice, from its bytes: refused or accepted, with its answer.
+#![tactic(auto)]
+
 ghost use Rattle.std.specs.Prelude.{◌≡◌, length};
 ghost use Rattle.rules.specs.Step as step;
 ghost use Rattle.places.specs.Layout.{venue_of};

@@ -1,4 +1,6 @@
 // An order, a complex order and a cancel, each by the fields of its message: their ranges, the refusals, and what it does.
+#![tactic(auto)]
+
 ghost use Rattle.std.specs.Prelude.{◌≡◌, false, eqb};
 ghost use Rattle.rules.specs.declared.Message.TheVariants.{Order, TwoLeg, Cancel};
 ghost use Rattle.rules.specs.Words.{with_last, is_id};

@@ -118,7 +118,7 @@ figure-set e a n h few w = record {
 last_more : (f x : ℕ) (es : List Edition) (e : Edition) → last_value f x (es ++ (e ∷ [])) ≡ (if sets f e then e.value else last_value f x es)
 unfolding last_value
 last_more f x [] e = refl
-last_more f x (y ∷ es) e = last_more f _ es e
+last_more f x (y ∷ es) e = last_more f (if sets f y then y.value else x) es e
 
 -- the figures are those of the first i editions
 pub record Counting (a b : List ℕ) (i : ℕ) : Type 0 where
@@ -169,7 +169,7 @@ last_some : (s y x : ℕ) (es : List Edition) → (0 < y) ⊎ (y ≡ x) → 0 < 
 unfolding last_value
 last_some s y x [] (inl h) k = h
 last_some s y x [] (inr h) k = rw h k
-last_some s y x (e ∷ es) h k = last_some s _ _ es (go (sets s e) h) k
+last_some s y x (e ∷ es) h k = last_some s (if sets s e then e.value else y) (if sets s e then e.value else x) es (go (sets s e) h) k
   where
     go : (t : Bool) → (0 < y) ⊎ (y ≡ x) → (0 < (if t then e.value else y)) ⊎ ((if t then e.value else y) ≡ (if t then e.value else x))
     go true p = inr refl
@@ -189,7 +189,7 @@ some-set s x (y ∷ es) zero e h v free k = last_some s _ x es (value v) (rw fre
         other : (t : Bool) → (t && eqb e.figure s) ≡ false
         other true = ne_eqb e.figure s (λ q. omega arith)
         other false = refl
-some-set s x (y ∷ es) (suc i) e h v free k = some-set s _ es i e h v free k
+some-set s x (y ∷ es) (suc i) e h v free k = some-set s (if sets s y then y.value else x) es i e h v free k
 
 pub put-edition : (a b c : List ℕ) (i : ℕ) (e : Edition) → length a ≡ size → i < 32 → e.figure < 256 → e.value < 256 → holds_edition (edition_in a i) ≡ false → (0 < e.value) ⊎ (7 < e.figure) →
     b ≡ row a (4 * i + edition_number_at) (edition_row e) → FiguresCounted b c →

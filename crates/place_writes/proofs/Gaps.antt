@@ -93,15 +93,15 @@ module _ {A : Type 0} (holds : A → Bool) where
       pub closed-count : length (keep holds (in_use f none n all)) ≡ j
       closed-count = ap length kept_in ∙ upto-length g 0 j
 
-      in_use : in_use g none j all ≡ upto g 0 j ++ replicate (all - j) none
+      in_use_packed : in_use g none j all ≡ upto g 0 j ++ replicate (all - j) none
       unfolding in_use
-      in_use = refl
+      in_use_packed = refl
 
       pub closed-part : in_use g none j all ≡ packed holds none (in_use f none n all)
       unfolding packed
       closed-part =
           let e : length (in_use f none n all) - length (keep holds (in_use f none n all)) ≡ all - j = omega (arith, used-length f none n all h, closed-count) in
-          in_use ∙ ap₂ (λ (l : List A) (k : ℕ). l ++ replicate k none) (sym kept_in) (sym e)
+          in_use_packed ∙ ap₂ (λ (l : List A) (k : ℕ). l ++ replicate k none) (sym kept_in) (sym e)
 
     -- the first free place is the one after those in use
     first-free : (f : ℕ → A) (i k m : ℕ) → ((x : ℕ) → i ≤ x → x < i + k → holds (f x) ≡ true) → place_where (λ o. not (holds o)) (upto f i k ++ replicate m none) ≡ k

@@ -1,4 +1,6 @@
 // What changes in the venue inside a call, as stores into the numbers of its slice (places' specs/Layout.antt).
+#![tactic(auto)]
+
 ghost use Rattle.std.specs.Prelude.{◌≡◌, suc, min, ◌+◌, ◌-◌, ◌*◌, ◌^◌, ◌≤◌, ◌<◌, length, get_or, set};
 ghost use Rattle.std.proofs.lemmas.List.Edits.{sets};
 ghost use Rattle.rules.specs.Words.{place_of, with_series, with_editions, with_generations, with_last, with_reached};

@@ -1,5 +1,7 @@
 // The venue inside a call: numbers in one lent slice (specs/Layout.antt), as they are read. Only this crate, place_writes and venue_numbers know the layout: the others
 // read and write places, and speak of the venue that the numbers stand for.
+#![tactic(auto)]
+
 ghost use Rattle.std.specs.Prelude.{◌≡◌, min, ◌-◌, ◌≤◌, pos, ◌-ℤ◌, length, get_or};
 ghost use Rattle.rules.specs.Settings.{figure_now, free_edition};
 ghost use Rattle.rules.specs.Generation.{generations_of};
@@ -102,7 +104,7 @@ pub const GENERATION_MESSAGES_AT: usize = 1232;
 pub const ID_REACHED_AT: usize = 1392;
 
 // The best price of a side, and its total size; both 0 where there is none.
-#[derive(Drop)]
+#[derive(Clone, Copy)]
 pub struct Level {
     pub price: u32,
     pub size: u64,

@@ -1,4 +1,6 @@
 // What is read of a side: own, clear and market prices, the band, the increment; and of a complex order its legs, its parent and whether its series are open.
+#![tactic(auto)]
+
 ghost use Rattle.std.specs.Prelude.{◌≡◌, ◌<◌, length};
 ghost use Rattle.rules.specs.Words.{legging_at, status_of, is_complex_of};
 ghost use Rattle.rules.specs.Settings.{increment};

@@ -1,17 +1,19 @@
 // Messages taken one by one from the caller's memory, uncopied. A reader holds the memory and a position in it; the functions over it are thin, and the work
 // is done by `head_at`, on a plain slice. Callers use `message_head`, whose parameters are plain.
+#![tactic(auto)]
+
 ghost use Rattle.std.specs.Prelude.{◌≡◌};
 ghost use Rattle.reader.specs.Head.{head_at, head_number, head_length};
 
 // The messages, and the position of the next one.
-#[derive(Drop)]
+#[derive(Clone, Copy)]
 pub struct Reader<'a> {
     pub messages: &'a [u8],
     pub at: usize,
 }
 
 // What stands at a position: nothing, a torn message, or a message of this length.
-#[derive(Drop)]
+#[derive(Clone, Copy)]
 pub enum Head {
     End,
     Torn,

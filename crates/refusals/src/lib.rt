@@ -1,4 +1,6 @@
 // Which refusal a message gets whose fields are in range, or none.
+#![tactic(auto)]
+
 ghost use Rattle.std.specs.Prelude.{◌≡◌, not, ◌&&◌, ◌||◌, ltb, eqb, length};
 ghost use Rattle.rules.specs.declared.Message.TheVariants.{Order, TwoLeg};
 ghost use Rattle.rules.specs.Base.{held, all};

@@ -1,4 +1,6 @@
 // Removal of legging orders from the venue in its slice: those that fail go, with their records (68) by rising place.
+#![tactic(auto)]
+
 ghost use Rattle.std.specs.Prelude.{◌≡◌, ◌||◌, ℕ, eqb, length};
 ghost use Rattle.rules.specs.declared.Verdict.TheVariants.{Fails};
 ghost use Rattle.rules.specs.Removal.{remove, remove_of, fail_if};

@@ -1,4 +1,6 @@
 // The records of a set (document 02 (h), crate sets) looked at in one pass, for their order and their places.
+#![tactic(auto)]
+
 ghost use Rattle.std.specs.Prelude.{◌≡◌, true, not, ◌&&◌, [], ◌≤◌, ◌<◌, eqb, drop};
 ghost use Rattle.rules.specs.Base.{held};
 ghost use Rattle.rules.specs.Words.{place_of, is_series, is_side, one_to_one};
@@ -10,7 +12,7 @@ ghost use Rattle.set_check.specs.Order.{front_of, none_read, opens, of_this, sam
 // Records -------------------------------------------------------------------------------------
 
 // What stands at a position: the end of the set, what is torn or of a kind or length not the set's, or a record of this length.
-#[derive(Drop)]
+#[derive(Clone, Copy)]
 pub enum Front {
     End,
     Broken,
@@ -215,7 +217,7 @@ pub fn told_of(r: &[u8]) -> u32
 
 // Where the reading stands: how many of the first records were read, whether the set is a whole one, part, sort key and message number of the record before, how
 // many of each part there were and of generations of the present series, and whether all had a place.
-#[derive(Drop)]
+#[derive(Clone, Copy)]
 pub struct SetProgress {
     opened: u8,
     whole: bool,

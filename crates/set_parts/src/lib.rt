@@ -1,4 +1,6 @@
 // The parts of a venue's set of records (document 02 (h), crate sets), each written from the numbers of the venue.
+#![tactic(auto)]
+
 ghost use Rattle.std.specs.Prelude.{◌≡◌, ◌∷◌, ◌++◌, map, ◌+◌, ◌≤◌, length};
 ghost use Rattle.rules.specs.declared.Message.TheVariants.{Away, Status};
 ghost use Rattle.rules.specs.Base.{held, keep};
@@ -16,7 +18,7 @@ ghost use Rattle.set_parts.specs.Requirements.{OrdersLeft};
 use rules::{Complex, Edition, Legging, Listed, Regular};
 
 // Where the orders of both books stand: the position, and the next place of either.
-#[derive(Drop)]
+#[derive(Clone, Copy)]
 pub struct Orders {
     at: usize,
     regular: usize,

@@ -1,5 +1,7 @@
 // Reading a set: a venue and its message number, from the records that another engine wrote (document 02 (h), crate sets). The records are looked at first
 // (crate set_check); each table of the venue is then filled from them (crate set_tables).
+#![tactic(auto)]
+
 ghost use Rattle.std.specs.Prelude.{◌≡◌};
 ghost use Rattle.sets.specs.Set.{carries, not_read, read_set};
 ghost use Rattle.set_reader.specs.Returned.{set_read};
@@ -7,7 +9,7 @@ ghost use Rattle.set_reader.specs.Returned.{set_read};
 use rules::Venue;
 
 // What a reading call returns: its number, the venue, and its message number.
-#[derive(Drop)]
+#[derive(Clone, Copy)]
 pub struct Resumed {
     pub number: u8,
     pub venue: Venue,

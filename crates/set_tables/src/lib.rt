@@ -1,4 +1,6 @@
 // Each table of a venue, filled from the records of a set that was looked at.
+#![tactic(auto)]
+
 ghost use Rattle.std.specs.Prelude.{◌≡◌, [], ◌≤◌, length, get_or, drop};
 ghost use Rattle.rules.specs.Bytes.{u32_at, length_field};
 ghost use Rattle.sets.specs.Set.{complex_told};

@@ -1,4 +1,6 @@
 // A venue and its message number, written as a set of records into lent memory.
+#![tactic(auto)]
+
 ghost use Rattle.std.specs.Prelude.{◌≡◌, length};
 ghost use Rattle.places.specs.Layout.{venue_of};
 ghost use Rattle.sets.specs.Set.{set_of, joined, not_written, write_set};
@@ -9,7 +11,7 @@ ghost use Rattle.places.specs.Requirements.{DenseNumbers};
 use rules::Venue;
 
 // What a writing call returns: its number, and how many bytes the set has.
-#[derive(Drop)]
+#[derive(Clone, Copy)]
 pub struct Saved {
     pub number: u8,
     pub written: usize,

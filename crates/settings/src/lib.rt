@@ -1,4 +1,6 @@
 // Request (d): what held when. The increments and the percent in force at a message number.
+#![tactic(auto)]
+
 ghost use Rattle.std.specs.Prelude.{◌≡◌, [], ◌∷◌, map};
 ghost use Rattle.rules.specs.Calls as calls;
 ghost use Rattle.settings.specs.Forced.{value_after, value_at};

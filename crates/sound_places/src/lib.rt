@@ -1,4 +1,6 @@
 // Whether each place of a venue that is held by value is sound by itself.
+#![tactic(auto)]
+
 ghost use Rattle.std.specs.Prelude.{◌≡◌, ◌<◌, ◌&&◌, leb, drop};
 ghost use Rattle.rules.specs.Base.{all};
 ghost use Rattle.rules.specs.Places.{blank_regular, blank_complex, blank_edition};

@@ -1,5 +1,7 @@
 // A sweep and a limited sweep, with their settling.
 // Each function says in one equation the venue that it leaves and all that it writes: those of its definition.
+#![tactic(auto)]
+
 ghost use Rattle.std.specs.Prelude.{◌≡◌, ◌++◌, ◌+◌, ◌-◌, ◌≤◌, take};
 ghost use Rattle.rules.specs.Generation.{generate};
 ghost use Rattle.rules.specs.Complex.{going_round, examined, id_reached, each_of};
@@ -62,7 +64,7 @@ pub fn sweep(numbers: &mut [u32], number: u32, out: &mut [u8], at: usize) -> usi
 }
 
 // The places that a limited sweep looks at: `above` of them from `first` on, and then `others` from 0 on.
-#[derive(Drop)]
+#[derive(Clone, Copy)]
 struct Round {
     first: usize,
     above: usize,
@@ -70,7 +72,7 @@ struct Round {
 }
 
 // What a limited sweep comes to: where its records end, and the number of orders that it looked at.
-#[derive(Drop)]
+#[derive(Clone, Copy)]
 pub struct Swept {
     pub at: usize,
     pub looked: u8,

@@ -1,4 +1,6 @@
 // The sheet as text: a line for each record of a report memory, typed into a lent slice.
+#![tactic(auto)]
+
 ghost use Rattle.std.specs.Prelude.{◌≡◌, [], ◌∷◌, ◌+◌, ◌<◌};
 ghost use Rattle.rules.specs.Bytes.{u8_at, u16_at, u32_at, as_signed};
 ghost use Rattle.rules.specs.Records.{answer, trade, pair, generated, removed, crossed, cancelled, looked, cause_number, cause_of, record_of, records};

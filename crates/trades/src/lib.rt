@@ -1,5 +1,7 @@
 // What is traded and told: contracts at one price, a pair, a hit, a meeting; and what is cancelled.
 // Each function says in one equation the venue that it leaves and all that it writes: those of its definition.
+#![tactic(auto)]
+
 ghost use Rattle.std.specs.Prelude.{◌≡◌, ◌≤◌, min, nat_abs, length};
 ghost use Rattle.rules.specs.Trading.{fill_complex, trade_with, pair_off};
 ghost use Rattle.rules.specs.Trading as trading;
@@ -106,7 +108,7 @@ pub fn pair_off(
 }
 
 // What a hit pairs: the complex order, its other leg with the clear price, and the net.
-#[derive(Drop)]
+#[derive(Clone, Copy)]
 pub struct Pairing {
     pub id: u32,
     pub series: u8,

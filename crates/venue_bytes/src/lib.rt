@@ -1,4 +1,6 @@
 // A venue held as bytes (specs/Held.antt): read.
+#![tactic(auto)]
+
 ghost use Rattle.std.specs.Prelude.{◌≡◌, ◌≤◌, length};
 ghost use Rattle.venue_bytes.specs.Held.{venue_size};
 ghost use Rattle.venue_bytes.specs.Held.{regular_from, complex_from, legging_from, listed_from, edition_from, generations_from, venue_from};

@@ -1,5 +1,7 @@
 // How a complex order is worked: crossed, touched, and legged in, a unit at a time.
 // Each function says in one equation the venue that it leaves and all that it writes: those of its definition.
+#![tactic(auto)]
+
 ghost use Rattle.std.specs.Prelude.{◌≡◌, ◌*◌, ◌/◌};
 ghost use Rattle.rules.specs.declared.Venue.{Venue};
 ghost use Rattle.rules.specs.Effects.{repeat};

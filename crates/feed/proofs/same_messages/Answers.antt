@@ -1,0 +1,7 @@
+-- `feed::same_messages` meets its contract.
+use mathlib.Core.Path.{ap₂, ◌∙◌}
+use Rattle.feed.specs.Feed.{same}
+use Rattle.feed.proofs.same_messages.Goals as goal
+
+pub returns : goal.returns
+returns c = c.same_bytes.ensures ∙ ap₂ same c.message_at-a.ensures c.message_at-b.ensures

@@ -1,0 +1,28 @@
+-- `place_writes::write_edition` meets its contract.
+use mathlib.Core.Path.{◌≡◌, refl}
+use Prim.Native.Nat.{suc, ◌+◌, ◌*◌}
+use native.Mathlib.Omega.{arith}
+use lib.ListN.{length-set}
+use Rattle.places.specs.Layout.{edition_row}
+use Rattle.places.specs.Offsets.{edition_number_at, edition_message_at, edition_figure_at, edition_value_at}
+use Rattle.place_writes.proofs.write_edition.Goals as goal
+
+pub bounds-numbers-i-2 : goal.bounds-numbers-i-2
+bounds-numbers-i-2 c = simp length-set (omega arith)
+
+pub bounds-numbers-i-3 : goal.bounds-numbers-i-3
+bounds-numbers-i-3 c = simp length-set (omega arith)
+
+pub bounds-numbers-i-4 : goal.bounds-numbers-i-4
+bounds-numbers-i-4 c = simp length-set (omega arith)
+
+pub returns : goal.returns
+unfolding edition_row
+returns c = let i = c.args.i in
+    let p1 : 4 * i + edition_message_at ≡ suc (4 * i + edition_number_at) = omega arith in
+    let p2 : 4 * i + edition_figure_at ≡ suc (suc (4 * i + edition_number_at)) = omega arith in
+    let p3 : 4 * i + edition_value_at ≡ suc (suc (suc (4 * i + edition_number_at))) = omega arith in (
+      rw (p1, p2, p3) refl,
+      c.struct_known-2-1.given.1.1.0.fits,
+      c.struct_known-2-1.given.1.1.1.0.fits,
+    )

@@ -1,0 +1,27 @@
+-- `removal::remove_of` meets its contract.
+use mathlib.Core.Path.{sym, ◌∙◌}
+use Rattle.rules.specs.Removal.{remove_of}
+use Rattle.removal.proofs.RemovalLaws.{removing-start, removing-turn, removing-past, removing-end, removing-room, by-parent, not-parent}
+use Rattle.removal.proofs.remove_of.Goals as goal
+
+pub loop-n-init : goal.loop-n-init
+loop-n-init c = removing-start _ _ _ _ c.requires
+
+pub loop-n-preserved-then-l-parent : goal.loop-n-preserved-then-l-parent
+loop-n-preserved-then-l-parent c =
+    removing-past _ c.loop-n.invariant c.loop-n-test.true (not-parent _ _ c.legging_at-l.ensures c.if-l-parent.true)
+
+pub loop-n-preserved : goal.loop-n-preserved
+loop-n-preserved c =
+    removing-turn _ c.loop-n.invariant _ _ _ _ c.loop-n-test.true (by-parent _ _ c.legging_at-l.ensures c.if-l-parent.false) c.remove_place-pos.auto.numbers
+    (c.remove_place-pos.ensures.result_after, c.remove_place-pos.ensures.counts)
+
+pub shape_of-numbers : goal.shape_of-numbers
+shape_of-numbers c = c.loop-n.invariant.whole ∙ sym c.requires
+
+pub shape_of-out : goal.shape_of-out
+shape_of-out c = removing-room _ c.loop-n.invariant
+
+pub returns : goal.returns
+unfolding remove_of
+returns c = record { result_after = (removing-end _ c.loop-n.invariant c.loop-n-test.false).0; counts = (removing-end _ c.loop-n.invariant c.loop-n-test.false).1 }

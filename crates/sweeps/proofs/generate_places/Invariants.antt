@@ -1,0 +1,14 @@
+use Prim.Native.Nat.{◌+◌, ◌-◌}
+use Rattle.rules.specs.Generation.{generate}
+use Rattle.rules.specs.Complex.{each_of}
+use Rattle.places.specs.Layout.{venue_of}
+use Rattle.removal.proofs.Loops.{Doing}
+use Rattle.sweeps.specs.Round.{places_from}
+use Rattle.sweeps.proofs.generate_places.Given as goal
+
+abbrev pub invariant-loop-k : goal.invariant-loop-k
+invariant-loop-k l =
+    Doing (each_of (generate l.number) (places_from l.first l.count) (venue_of l.initial.numbers)) (each_of (generate l.number) (places_from (l.first + l.k) (l.count - l.k))) l.initial.numbers l.initial.out l.at l.numbers l.out l.pos
+
+abbrev pub decreases-loop-k : goal.decreases-loop-k
+decreases-loop-k l = l.count - l.k

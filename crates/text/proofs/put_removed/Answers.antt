@@ -1,0 +1,11 @@
+use Rattle.text.specs.Lines.{line_of}
+use Rattle.text.proofs.put_removed.Goals as goal
+
+pub returns : goal.returns
+unfolding line_of
+returns c = rw (
+  c.u32_at.ensures,
+  c.byte_at.ensures,
+  c.byte_at-2.ensures,
+  c.cause_at.ensures,
+) at c.put_fields.ensures

@@ -1,0 +1,15 @@
+use Prim.Native.Nat.{◌-◌}
+use mathlib.Core.Path.{◌≡◌}
+use lib.ListN.{length}
+use Rattle.rules.specs.Records.{records}
+use Rattle.records.specs.Seen.{seen}
+use Rattle.text.specs.Lines.{text_of}
+use Rattle.text.specs.Typing.{◌types◌}
+use Rattle.text.proofs.Sheets.{Left}
+use Rattle.text.proofs.put_sheet.Given as goal
+
+abbrev pub invariant-loop-kind : goal.invariant-loop-kind
+invariant-loop-kind l = (length l.out ≡ length l.initial.out) × (Left (seen l.initial.out l.at types text_of (records l.report)) l.report (seen l.out l.pos) l.from)
+
+abbrev pub decreases-loop-kind : goal.decreases-loop-kind
+decreases-loop-kind l = length l.report - l.from
