@@ -1,4 +1,6 @@
 // The layer of four venues in lent memory (specs/Memory.antt), lane by lane: checked, joined, and moved on.
+#![tactic(auto)]
+
 ghost use Rattle.std.specs.Prelude.{◌≡◌, ◌++◌, ◌+◌, ◌-◌, length, take, drop, replicate};
 ghost use Rattle.rules.specs.Bytes.{u8_at, u32_at, u8, u32};
 ghost use Rattle.records.specs.Seen.{pasted};

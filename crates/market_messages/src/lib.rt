@@ -1,4 +1,6 @@
 // Away prices, a status, a setting and a sweep, each by the fields of its message: their ranges, the refusals, and what it does.
+#![tactic(auto)]
+
 ghost use Rattle.std.specs.Prelude.{◌≡◌, false, ◌&&◌};
 ghost use Rattle.rules.specs.declared.Message.TheVariants.{Away, Status, Sweep, Increment, Percent, LimitedSweep};
 ghost use Rattle.rules.specs.Words.{within, is_series, is_status, is_away};

@@ -1,5 +1,7 @@
 // What the messages do but for sweeps: an order, a complex order and a cancel, each with its settling.
 // Each function says in one equation the venue that it leaves and all that it writes: those of its definition.
+#![tactic(auto)]
+
 ghost use Rattle.std.specs.Prelude.{◌≡◌, suc};
 ghost use Rattle.rules.specs.Order as order;
 ghost use Rattle.rules.specs.Complex.{complex_place, cancel_complex};

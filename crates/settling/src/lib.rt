@@ -1,4 +1,6 @@
 // The test by which legging orders stand, and settling.
+#![tactic(auto)]
+
 ghost use Rattle.std.specs.Prelude.{◌≡◌, true, not, ℕ, ◌<◌, eqb, get_or};
 ghost use Rattle.rules.specs.Step.{mask};
 ghost use Rattle.rules.specs.Words.{no_legging};

@@ -1,4 +1,6 @@
 // A venue written as bytes (venue_bytes' specs/Held.antt).
+#![tactic(auto)]
+
 ghost use Rattle.std.specs.Prelude.{◌≡◌, ◌+◌, ◌≤◌, length};
 ghost use Rattle.records.specs.Seen.{seen, pasted, ◌plus◌};
 ghost use Rattle.venue_bytes.specs.Held.{editions_at, reserves_at, ratios_at, generations_at, venue_size};

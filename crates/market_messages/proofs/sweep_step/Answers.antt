@@ -1,0 +1,21 @@
+-- `market_messages::sweep_step` meets its contract.
+use mathlib.Core.Path.{◌∙◌}
+use Rattle.rules.specs.Step.{perform}
+use Rattle.refusals.proofs.RefusalFound.{sweep-taken}
+use Rattle.answers.proofs.Answering.{done-steps}
+use Rattle.market_messages.proofs.sweep_step.Goals as goal
+
+pub sweep-end-requires : goal.sweep-end-requires
+sweep-end-requires c =
+    record { whole = c.requires.whole; dense = c.requires.dense }
+
+pub finish-requires : goal.finish-requires
+finish-requires c =
+    record {
+      whole = c.sweep-end.auto.numbers ∙ c.requires.whole;
+      right = c.sweep-end.ensures.counts.right c.requires.dense.right;
+    }
+
+pub returns : goal.returns
+unfolding perform
+returns c = done-steps _ _ _ _ _ _ _ _ _ _ _ _ (sweep-taken _) c.emit_answer-at.ensures c.sweep-end.ensures.result_after c.finish.ensures

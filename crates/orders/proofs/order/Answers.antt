@@ -1,0 +1,28 @@
+-- `orders::order` meets its contract.
+use mathlib.Core.Path.{◌∙◌}
+use Rattle.rules.specs.Standing.{settle}
+use Rattle.rules.specs.Order.{enter_regular, order}
+use Rattle.records.proofs.StageLaws.{follow}
+use Rattle.places.specs.Layout.{venue_of}
+use Rattle.orders.proofs.OrderLaws.{counts-more}
+use Rattle.orders.proofs.order.Reads as reads
+use Rattle.orders.proofs.order.Lts as lts
+use Rattle.settling.proofs.settle_all.Reads as settle-all-reads
+use Rattle.matching.proofs.enter_regular.Reads as enter-regular-reads
+use Rattle.orders.proofs.order.Goals as goal
+
+pub enter_regular-pos-requires : goal.enter_regular-pos-requires
+enter_regular-pos-requires c = c.requires
+
+pub settle_all-requires : goal.settle_all-requires
+settle_all-requires c = record { whole = c.enter_regular-pos.auto.numbers ∙ c.requires.whole; right = c.enter_regular-pos.ensures.counts.right c.requires.dense.right }
+
+pub returns : goal.returns
+unfolding order
+returns c = record {
+  result_after = follow _ (enter_regular c.args.o (venue_of c.args.numbers.now)) settle _ _ _ _ _ _
+      c.enter_regular-pos.ensures.result_after
+      c.settle_all.ensures.result_after;
+  counts = counts-more _ _ _ _ _ c.enter_regular-pos.ensures.counts
+      c.settle_all.ensures.counts;
+}

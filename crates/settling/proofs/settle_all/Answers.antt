@@ -1,0 +1,18 @@
+-- `settling::settle_all` meets its contract.
+use mathlib.Core.Path.{ap, ◌∙◌}
+use Rattle.rules.specs.declared.Venue.{Venue}
+use Rattle.rules.specs.Removal.{remove}
+use Rattle.rules.specs.Standing.{verdict, settle}
+use Rattle.records.specs.Seen.{seen}
+use Rattle.records.specs.Stage.{◌does◌}
+use Rattle.places.proofs.Beside.{counts-on}
+use Rattle.settling.proofs.settle_all.Goals as goal
+
+pub remove_failing-requires : goal.remove_failing-requires
+remove_failing-requires c =
+    record { whole = c.show_again.auto.numbers ∙ c.requires.whole; right = c.show_again.ensures.counts.right c.requires.right }
+
+pub returns : goal.returns
+unfolding settle
+returns c =
+    record { result_after = c.remove_failing.ensures.result_after ∙ ap (λ (v : Venue). seen c.args.out.now c.args.at does remove (verdict v) v) c.show_again.ensures.numbers_after; counts = counts-on _ _ _ c.show_again.ensures.counts c.remove_failing.ensures.counts }

@@ -1,0 +1,25 @@
+-- `settling::verdicts` meets its contract.
+use Rattle.settling.proofs.CausesFound.{number_small, causes-none, causes-room, causes-free, causes-on, causes-all}
+use native.Mathlib.Omega.{arith}
+use Rattle.settling.proofs.verdicts.Goals as goal
+
+pub loop-n-init : goal.loop-n-init
+loop-n-init c = causes-none _
+
+pub overflow_mul-causes : goal.overflow_mul-causes
+overflow_mul-causes c = omega (arith, causes-room _ _ _ c.loop-n.invariant c.loop-n-test.true)
+
+pub loop-n-preserved-then-l-eq0 : goal.loop-n-preserved-then-l-eq0
+loop-n-preserved-then-l-eq0 c =
+    causes-free _ _ _ c.loop-n.invariant c.loop-n-test.true c.legging_at-l.result c.legging_at-l.ensures c.if-l-eq0.true
+
+pub overflow_add-causes : goal.overflow_add-causes
+overflow_add-causes c =
+    omega (arith, causes-room _ _ _ c.loop-n.invariant c.loop-n-test.true, c.verdict_number.ensures, number_small c.judge.result)
+
+pub loop-n-preserved : goal.loop-n-preserved
+loop-n-preserved c =
+    causes-on _ _ _ c.loop-n.invariant c.loop-n-test.true _ c.judge.result c.verdict_number.ensures c.judge.ensures
+
+pub returns : goal.returns
+returns c = causes-all _ _ _ c.loop-n.invariant (omega arith)
