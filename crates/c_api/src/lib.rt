@@ -1,4 +1,6 @@
 // The calls for a host in C: the run, the first venue, one message, the feed, the settings, and a set written and read.
+#![tactic(auto)]
+
 ghost use Rattle.std.specs.Prelude.{◌≡◌, ◌≤◌, length};
 ghost use Rattle.rules.specs.Calls as calls;
 ghost use Rattle.rules.specs.Bytes.{u32};

@@ -47,9 +47,9 @@ onto-onto j k a b o =
 -- How it goes on ------------------------------------------------------------------------------
 
 module _ (k : ℕ) (v : Venue) where
-  pub goes_on : (rest : Outcome) → k ≡ 0 → goes_on k v rest ≡ rest
+  pub goes-on : (rest : Outcome) → k ≡ 0 → goes_on k v rest ≡ rest
   unfolding goes_on
-  goes_on rest e = rw (eq-eqb k 0 e)
+  goes-on rest e = rw (eq-eqb k 0 e)
 
   pub goes-not : (rest : Outcome) → (k ≡ 0 → ⊥) → goes_on k v rest ≡ ends k v
   unfolding goes_on
@@ -146,7 +146,7 @@ sofar-start whole l b n =
       len = refl;
       within = zero-le;
       bytes = refl;
-      is = onto-zero whole ∙ ap (onto 0 []) (sym (goes_on 0 (venue_of b) whole refl));
+      is = onto-zero whole ∙ ap (onto 0 []) (sym (goes-on 0 (venue_of b) whole refl));
     }
 
 module _ (whole : Outcome) (l₀ b l : List ℕ) (number done written : ℕ) where
@@ -171,7 +171,7 @@ module _ (whole : Outcome) (l₀ b l : List ℕ) (number done written : ℕ) whe
         within = omega arith;
         bytes = turn.bytes ∙ ap (λ (x : List ℕ). x ++ encode_all turn.records) g.bytes ∙ sym (encode-append g.records turn.records);
         is =
-            g.is ∙ ap (onto done g.records) (goes_on number (venue_of b) rest going ∙ turn.is)
+            g.is ∙ ap (onto done g.records) (goes-on number (venue_of b) rest going ∙ turn.is)
             ∙ onto-onto done (done' - done) g.records turn.records (goes_on number' (venue_of b') rest')
             ∙ ap (λ (k : ℕ). onto k (g.records ++ turn.records) (goes_on number' (venue_of b') rest')) z;
       }

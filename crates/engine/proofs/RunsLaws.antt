@@ -28,7 +28,7 @@ use Rattle.answers.specs.declared.Stepped.{Stepped}
 use Rattle.messages.specs.Tries.{Tries}
 use Rattle.engine.specs.declared.RunProgress.{RunProgress}
 use Rattle.engine.specs.Runs.{goes_on, Advances, call_of}
-use Rattle.engine.proofs.Proceeding.{goes_on, goes-not, turn-ends, too_long, venue-kept, front_kept, length-is, venue-is, turn-does, Sofar}
+use Rattle.engine.proofs.Proceeding.{goes-on, goes-not, turn-ends, too_long, venue-kept, front_kept, length-is, venue-is, turn-does, Sofar}
 use Rattle.engine.proofs.Proceeding.{sofar-start, sofar-as, sofar-turn, Ended, sofar-ends, ended-call}
 
 -- A turn --------------------------------------------------------------------------------------
@@ -129,7 +129,7 @@ module _ (t : RunProgress) (m b₀ b l ys : List ℕ) (r : Stepped) (a : t.at < 
               ∙ ap (after done.effect)
               (ap₂ (λ (x : Venue) (j : ℕ). run_from fuel x j (room - length (encode_all rs)) (drop (length_field bs) bs)) (sym same-venue) (sym (add-one t.done))
               ∙ ap₂ (λ (j : ℕ) (x : List ℕ). run_from fuel (venue_of b) (t.done + 1) j x) left rest
-              ∙ sym (goes_on 0 (venue_of b) _ refl)));
+              ∙ sym (goes-on 0 (venue_of b) _ refl)));
           moved = λ _. (omega arith, omega arith, add-one t.done);
           dense = tried.dense;
           sound = sound-still;
@@ -169,7 +169,7 @@ module _ (m l₀ b l : List ℕ) (t : RunProgress) (g : Running m l₀ b l t) wh
   pub running-end : length m ≤ t.at → RunEnded m l₀ b l t
   running-end h =
       sofar-ends (whole_run m l₀) l₀ b l t.number t.done t.written (left_run m l₀ b t)
-      (goes_on t.number (venue_of b) (left_run m l₀ b t) g.going
+      (goes-on t.number (venue_of b) (left_run m l₀ b t) g.going
       ∙ ap (run_from (length m - t.done) (venue_of b) t.done (length l₀ - t.written)) (drop_of_length-le m {i = t.at} h)
       ∙ run_none (length m - t.done) (venue_of b) t.done (length l₀ - t.written)
       ∙ ap (λ (k : ℕ). ends k (venue_of b)) (sym g.going))

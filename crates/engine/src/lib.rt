@@ -1,4 +1,6 @@
 // The engine: the run of a message list, and one message upon a venue held by value.
+#![tactic(auto)]
+
 ghost use Rattle.std.specs.Prelude.{◌≡◌, length};
 ghost use Rattle.rules.specs.Calls.{called, ends};
 ghost use Rattle.rules.specs.Calls as calls;
@@ -10,7 +12,7 @@ use rules::{Returned, Venue};
 // A run -----------------------------------------------------------------------------------------
 
 // Where a run stands: its number, the messages done, the position in them, and the bytes written.
-#[derive(Drop)]
+#[derive(Clone, Copy)]
 pub struct RunProgress {
     pub number: u8,
     pub done: u32,

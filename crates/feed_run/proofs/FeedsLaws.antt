@@ -30,7 +30,7 @@ use Rattle.feed.proofs.Ahead.{Ahead, ahead-start, ahead-moved, ahead-ready, adva
 use Rattle.feed_run.specs.declared.FeedProgress.{FeedProgress}
 use Rattle.engine.specs.Runs.{goes_on, call_of}
 use Rattle.feed_run.specs.Feeds.{stops_at, Feeds}
-use Rattle.engine.proofs.Proceeding.{goes_on, goes-not, turn-ends, too_long, venue-kept, front_kept, length-is, venue-is, turn-does, Sofar}
+use Rattle.engine.proofs.Proceeding.{goes-on, goes-not, turn-ends, too_long, venue-kept, front_kept, length-is, venue-is, turn-does, Sofar}
 use Rattle.engine.proofs.Proceeding.{sofar-start, sofar-as, sofar-turn, Ended, sofar-ends, ended-call}
 
 -- A line that is faulty -----------------------------------------------------------------------
@@ -142,7 +142,7 @@ module _ (t : FeedProgress) (main spare : List ℕ) where
               ∙ ap (after done.effect)
               (ap₂ (λ (z : Venue) (k : ℕ). fed_from fuel z k (room - length (encode_all rs)) ms ss) (sym same) (sym n-is)
               ∙ ap (λ (k : ℕ). fed_from fuel (venue_of b) n k ms ss) left
-              ∙ sym (goes_on 0 (venue_of b) _ refl)));
+              ∙ sym (goes-on 0 (venue_of b) _ refl)));
           moved = λ _. (n-is, xx, yy, omega arith);
           dense = tried.dense;
           sound = rw (n-is, same) (stays-sound v number (omega arith) s part);
@@ -220,7 +220,7 @@ module _ (main spare l₀ b l : List ℕ) (t : FeedProgress) (g : Feeding main s
       let p = length-drop t.main main in
       let q = length-drop t.spare spare in
       sofar-ends (whole_feed main spare l₀) l₀ b l t.number t.done t.written (left_feed main spare l₀ b t)
-      (goes_on t.number (venue_of b) (left_feed main spare l₀ b t) g.going
+      (goes-on t.number (venue_of b) (left_feed main spare l₀ b t) g.going
       ∙ fed-none (length main + length spare - t.done) (venue_of b) t.done (length l₀ - t.written) (parts_of main) (parts_of spare)
       (next-end t.done (drop t.main main) (drop t.spare spare) (parts_of main) (parts_of spare) g.on-main g.on-spare (omega arith) (omega arith))
       ∙ ap (λ (k : ℕ). ends k (venue_of b)) (sym g.going))

@@ -1,4 +1,6 @@
 // The messages of two lines of one feed, number by number, from a fresh venue.
+#![tactic(auto)]
+
 ghost use Rattle.std.specs.Prelude.{◌≡◌, length};
 ghost use Rattle.feed.specs.Feed as feeding;
 ghost use Rattle.engine.specs.Runs.{call_of};
@@ -10,7 +12,7 @@ use rules::Returned;
 // Two lines of one feed --------------------------------------------------------------------------
 
 // Where the handing out stands: its number, the messages done, the position on each line, and the bytes written.
-#[derive(Drop)]
+#[derive(Clone, Copy)]
 pub struct FeedProgress {
     pub number: u8,
     pub done: u32,

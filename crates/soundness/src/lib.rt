@@ -1,4 +1,6 @@
 // Whether a venue that is held by value is sound. One that is sound is loaded on the way.
+#![tactic(auto)]
+
 ghost use Rattle.std.specs.Prelude.{◌≡◌, ◌&&◌, ltb, eqb, length};
 ghost use Rattle.rules.specs.Base.{all};
 ghost use Rattle.rules.specs.Places.{blank_legging};

@@ -1,4 +1,6 @@
 // A venue held by value, and the fresh one, laid out as the numbers of a slice (places' specs/Layout.antt).
+#![tactic(auto)]
+
 ghost use Rattle.std.specs.Prelude.{◌≡◌, length};
 ghost use Rattle.rules.specs.Words.{fresh_venue, with_legging, with_series, with_generations, with_reached};
 ghost use Rattle.rules.specs.Step.{mask};

@@ -1,0 +1,27 @@
+-- `places::leggings_of` meets its contract.
+use mathlib.Core.Path.{refl, ap, ◌∙◌}
+use native.Mathlib.Omega.{arith}
+use lib.ListN.{length}
+use Rattle.rules.specs.Words.{no_legging}
+use Rattle.places.specs.Layout.{upto, in_use, legging_in, venue_of}
+use Rattle.places.proofs.Tables.{used-length, used-next, used-done, whole}
+use Rattle.places.proofs.leggings_of.Goals as goal
+
+pub loop-i-init : goal.loop-i-init
+unfolding in_use upto
+loop-i-init c = (omega arith, refl)
+
+pub legging_at-x-requires : goal.legging_at-x-requires
+legging_at-x-requires c = record { whole = c.requires; place = omega arith }
+
+pub bounds-r-i : goal.bounds-r-i
+bounds-r-i c = let z = ap length c.loop-i.invariant.1 in
+    let y = used-length (legging_in c.args.numbers.now) no_legging c.loop-i.i 16 (omega arith) in
+    omega arith
+
+pub loop-i-preserved : goal.loop-i-preserved
+loop-i-preserved c = (omega arith, used-next _ _ _ 16 _ _ (omega arith) c.loop-i.invariant.1 c.legging_at-x.ensures)
+
+pub returns : goal.returns
+unfolding venue_of
+returns c = used-done _ _ _ _ 16 _ (omega arith) c.loop-i.invariant.1 ∙ whole (legging_in c.args.numbers.now) no_legging 16
