@@ -1,4 +1,6 @@
 // Four venues behind one line: arrivals and turns upon the layer in lent memory (crate lanes).
+#![tactic(auto)]
+
 ghost use Rattle.std.specs.Prelude.{◌≡◌, [], length};
 ghost use Rattle.rules.specs.Records.{sheet};
 ghost use Rattle.engine.specs.Runs.{call_of};
@@ -72,7 +74,7 @@ fn call_head(lane: &[u8], report: &mut [u8]) -> Returned
 }
 
 // What a turn returns beside the layer and the report; 4 is served where no message was done.
-#[derive(Drop)]
+#[derive(Clone, Copy)]
 pub struct TurnReturned {
     pub number: u8,
     pub done: u32,

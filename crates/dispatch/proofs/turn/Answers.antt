@@ -1,0 +1,195 @@
+-- `dispatch::turn` meets its contract.
+use mathlib.Core.Path.{sym, ap, ◌∙◌}
+use Prim.Native.Nat.{◌+◌, ◌-◌, ◌*◌}
+use lib.ListN.{length}
+use native.Mathlib.Omega.{arith}
+use Rattle.lanes.specs.Memory.{lane_size, layer_from}
+use Rattle.dispatch.specs.Hosts.{turn_reply_of}
+use Rattle.lanes.proofs.ChecksLaws.{fails-unsound}
+use Rattle.dispatch.proofs.CallWays.{checked-all, Serves, small, lent-size, lent-some, lent-few, lent-short, lent-counted, turn-none, turn-unsound, turn-idle, turn-ended, turn-serves}
+use Rattle.dispatch.proofs.turn.Goals as goal
+
+pub returns-then-layer-ne-LAYER : goal.returns-then-layer-ne-LAYER
+returns-then-layer-ne-LAYER c = ap (λ r. turn_reply_of r c.args.layer.now c.idle.new.report) c.idle.ensures.0 ∙ turn-none c.args.layer.now
+    (length c.args.report.now) _ c.if-layer-ne-LAYER.true c.idle.ensures.1
+
+pub returns-then-not-layer_sound : goal.returns-then-not-layer_sound
+returns-then-not-layer_sound c = ap (λ r. turn_reply_of r c.args.layer.now c.idle-then-not-layer_sound.new.report) c.idle-then-not-layer_sound.ensures.0 ∙ turn-unsound
+    c.args.layer.now c.if-layer-ne-LAYER.false
+    (length c.args.report.now) _
+    (fails-unsound c.next_waiting-v.result (layer_from c.args.layer.now)
+    (sym c.layer_sound.ensures ∙ c.if-not-layer_sound.true))
+    c.idle-then-not-layer_sound.ensures.1
+
+pub returns-then-v-eq4 : goal.returns-then-v-eq4
+returns-then-v-eq4 c = ap (λ r. turn_reply_of r c.args.layer.now c.idle-then-v-eq4.new.report) c.idle-then-v-eq4.ensures.0 ∙ turn-idle
+    c.args.layer.now c.if-layer-ne-LAYER.false
+    (length c.args.report.now) _
+    (checked-all c.args.layer.now c.next_waiting-v.result _
+    c.layer_sound.ensures c.if-v-eq4.true ∙ c.if-not-layer_sound.false)
+    (sym c.next_waiting-v.ensures ∙ c.if-v-eq4.true)
+    c.idle-then-v-eq4.ensures.1
+
+pub overflow_mul-at : goal.overflow_mul-at
+overflow_mul-at c =
+    let serves : Serves c.args.layer.now c.next_waiting-v.result = record {
+      size = c.if-layer-ne-LAYER.false;
+      checked = sym c.layer_sound.ensures
+          ∙ c.if-not-layer_sound.false;
+      here = c.next_waiting-v.ensures;
+      some = c.if-v-eq4.false;
+    } in
+    omega (arith, small c.args.layer.now c.next_waiting-v.result serves)
+
+pub overflow_add-end : goal.overflow_add-end
+overflow_add-end c =
+    let serves : Serves c.args.layer.now c.next_waiting-v.result = record {
+      size = c.if-layer-ne-LAYER.false;
+      checked = sym c.layer_sound.ensures
+          ∙ c.if-not-layer_sound.false;
+      here = c.next_waiting-v.ensures;
+      some = c.if-v-eq4.false;
+    } in
+    omega (arith, small c.args.layer.now c.next_waiting-v.result serves)
+
+pub slice_bounds-call_head-end : goal.slice_bounds-call_head-end
+slice_bounds-call_head-end c =
+    let serves : Serves c.args.layer.now c.next_waiting-v.result = record {
+      size = c.if-layer-ne-LAYER.false;
+      checked = sym c.layer_sound.ensures
+          ∙ c.if-not-layer_sound.false;
+      here = c.next_waiting-v.ensures;
+      some = c.if-v-eq4.false;
+    } in
+    omega (
+      arith,
+      small c.args.layer.now
+          c.next_waiting-v.result serves,
+      serves.size,
+    )
+
+pub call_head-r-requires : goal.call_head-r-requires
+call_head-r-requires c =
+    let serves : Serves c.args.layer.now c.next_waiting-v.result = record {
+      size = c.if-layer-ne-LAYER.false;
+      checked = sym c.layer_sound.ensures
+          ∙ c.if-not-layer_sound.false;
+      here = c.next_waiting-v.ensures;
+      some = c.if-v-eq4.false;
+    } in
+    record {
+      whole = lent-size c.args.layer.now
+          c.next_waiting-v.result serves
+          (lane_size * c.next_waiting-v.result + lane_size - lane_size *
+          c.next_waiting-v.result) (omega arith);
+      places = lent-short c.args.layer.now
+          c.next_waiting-v.result serves
+          (lane_size * c.next_waiting-v.result + lane_size - lane_size *
+          c.next_waiting-v.result) (omega arith);
+    }
+
+pub returns-then-r-eq0 : goal.returns-then-r-eq0
+returns-then-r-eq0 c =
+    let serves : Serves c.args.layer.now c.next_waiting-v.result = record {
+      size = c.if-layer-ne-LAYER.false;
+      checked = sym c.layer_sound.ensures
+          ∙ c.if-not-layer_sound.false;
+      here = c.next_waiting-v.ensures;
+      some = c.if-v-eq4.false;
+    } in
+    turn-ended c.args.layer.now
+    c.next_waiting-v.result
+    serves
+    (lane_size * c.next_waiting-v.result + lane_size -
+    lane_size * c.next_waiting-v.result)
+    (omega arith) (length
+    c.args.report.now) c.call_head-r.result _ c.call_head-r.ensures c.if-r-eq0.true
+
+pub slice_bounds-advance-end : goal.slice_bounds-advance-end
+slice_bounds-advance-end c =
+    let serves : Serves c.args.layer.now c.next_waiting-v.result = record {
+      size = c.if-layer-ne-LAYER.false;
+      checked = sym c.layer_sound.ensures
+          ∙ c.if-not-layer_sound.false;
+      here = c.next_waiting-v.ensures;
+      some = c.if-v-eq4.false;
+    } in
+    omega (
+      arith,
+      small c.args.layer.now
+          c.next_waiting-v.result
+          serves,
+      serves.size,
+    )
+
+pub advance-requires : goal.advance-requires
+advance-requires c =
+    let serves : Serves c.args.layer.now c.next_waiting-v.result = record {
+      size = c.if-layer-ne-LAYER.false;
+      checked = sym c.layer_sound.ensures
+          ∙ c.if-not-layer_sound.false;
+      here = c.next_waiting-v.ensures;
+      some = c.if-v-eq4.false;
+    } in
+    let e = (lane_size * c.next_waiting-v.result + lane_size - lane_size *
+    c.next_waiting-v.result) in record {
+      whole = lent-size c.args.layer.now
+          c.next_waiting-v.result
+          serves e (omega arith);
+      room = lent-counted c.args.layer.now
+          c.next_waiting-v.result
+          serves e (omega arith)
+          (length c.args.report.now) c.call_head-r.result _ c.call_head-r.ensures c.if-r-eq0.false;
+      waits = lent-some c.args.layer.now
+          c.next_waiting-v.result
+          serves e (omega arith);
+      most = lent-few c.args.layer.now
+          c.next_waiting-v.result
+          serves e (omega arith);
+    }
+
+pub overflow_cast-layer : goal.overflow_cast-layer
+overflow_cast-layer c =
+    let serves : Serves c.args.layer.now c.next_waiting-v.result = record {
+      size = c.if-layer-ne-LAYER.false;
+      checked = sym c.layer_sound.ensures
+          ∙ c.if-not-layer_sound.false;
+      here = c.next_waiting-v.ensures;
+      some = c.if-v-eq4.false;
+    } in
+    omega (
+      arith,
+      small c.args.layer.now
+          c.next_waiting-v.result serves,
+    )
+
+pub overflow_cast-result : goal.overflow_cast-result
+overflow_cast-result c =
+    let serves : Serves c.args.layer.now c.next_waiting-v.result = record {
+      size = c.if-layer-ne-LAYER.false;
+      checked = sym c.layer_sound.ensures
+          ∙ c.if-not-layer_sound.false;
+      here = c.next_waiting-v.ensures;
+      some = c.if-v-eq4.false;
+    } in
+    omega (
+      arith,
+      small c.args.layer.now
+          c.next_waiting-v.result serves,
+    )
+
+pub returns : goal.returns
+returns c =
+    let serves : Serves c.args.layer.now c.next_waiting-v.result = record {
+      size = c.if-layer-ne-LAYER.false;
+      checked = sym c.layer_sound.ensures
+          ∙ c.if-not-layer_sound.false;
+      here = c.next_waiting-v.ensures;
+      some = c.if-v-eq4.false;
+    } in
+    turn-serves c.args.layer.now
+    c.next_waiting-v.result serves
+    (lane_size * c.next_waiting-v.result + lane_size - lane_size *
+    c.next_waiting-v.result) (omega arith)
+    (length c.args.report.now) c.call_head-r.result _ c.call_head-r.ensures c.if-r-eq0.false
+    c.advance.new.lane c.advance.ensures
