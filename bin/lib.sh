@@ -5,7 +5,7 @@ MINUTES=5
 ARCHIVE_MINUTES=7
 
 # The crates whose archives hosts link: the calls of one venue, and those of four behind one line.
-ARCHIVES=(c_api dispatch)
+ARCHIVES=(c_api_c dispatch_c)
 
 # The top of the repository, also where a script was started through a symbolic link.
 top=$(cd "$(dirname "$(readlink -f "${BASH_SOURCE[0]}")")/.." && pwd -P)
@@ -131,27 +131,36 @@ build() {
     CARGO_TARGET_DIR=$folder cargo build "${words[@]}" >&2 || fail "host/target/release/$1 was not built"
 }
 
+# archive_of NAME: the archive of this crate, below the top, under the name that hosts know: that of the crate whose calls
+# it exports.
+archive_of() { printf 'target/staticlib/lib%s.a' "${1%_c}"; }
+
 # Whether an archive is there, and no crate is younger. What rt makes in crates/NAME/out does not count.
 is_new() { # NAME
-    local archive=$top/crates/$1/out/lib$1.a
+    local archive
+    archive=$top/$(archive_of "$1")
     [ -f "$archive" ] && [ ! "$top/crates.txt" -nt "$archive" ] &&
         [ -z "$(find "$top/crates" -mindepth 2 -name out -prune -o -newer "$archive" -print -quit)" ]
 }
 
-# Has both archives: crates/NAME/out/libNAME.a.
+# Has both archives, each a copy of crates/NAME/out/libNAME.a.
 archives() {
-    local name order needs=no status
+    local name archive order needs=no status
     for name in "${ARCHIVES[@]}"; do is_new "$name" || needs=yes; done
     [ "$needs" = yes ] || return 0
     order=$(needed "${ARCHIVES[@]}")
     begin_proving "${ARCHIVES[@]}"
     say "proving and building the engine's archives and all that they stand on: about $ARCHIVE_MINUTES minutes"
     for name in "${ARCHIVES[@]}"; do
-        say "proving $name and writing crates/$name/out/lib$name.a"
+        archive=$(archive_of "$name")
+        say "proving $name and writing $archive"
         status=0
         # shellcheck disable=SC2086
         (in_crate "$name" lib) | follow $order || status=$?
         [ "$status" -eq 0 ] || refused "$status"
+        mkdir -p "$top/target/staticlib"
+        { cp "$top/crates/$name/out/lib$name.a" "$top/$archive.new" && mv -f "$top/$archive.new" "$top/$archive"; } ||
+            fail "not written: $top/$archive"
     done
     exec 9>&-
 }

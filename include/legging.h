@@ -7,10 +7,11 @@
  *     cc host.c $(pkg-config --cflags --libs legging)
  *     cc four.c $(pkg-config --cflags --libs legging_layer)
  *
- * Without an installation a host links the archives that `rt lib` writes in the folders
- * crates/c_api and crates/dispatch: out/libc_api.a, and for four venues out/libdispatch.a.
- * Both archives are for x86-64 Linux, and may be linked together. They call memcpy,
- * memmove and memset of the C library and nothing else.
+ * Without an installation a host links target/staticlib/libc_api.a, and for four venues
+ * target/staticlib/libdispatch.a: copies of out/libc_api_c.a and out/libdispatch_c.a, which
+ * `rt lib` writes in the folders crates/c_api_c and crates/dispatch_c. Both archives are
+ * for x86-64 Linux, and may be linked together. They call memcpy, memmove and memset of
+ * the C library and nothing else.
  *
  * MEMORY
  *   All memory is the host's. A call keeps no pointer after it returns, allocates

@@ -1,5 +1,5 @@
-//! Finds the archives that `rt lib` writes for the crates c_api and dispatch, links them,
-//! and tells the tests their paths.
+//! Finds the archives of the crates c_api_c and dispatch_c, links them, and tells the tests
+//! their paths.
 
 use std::env;
 use std::path::{Path, PathBuf};
@@ -8,8 +8,8 @@ use std::process::exit;
 /// Names other archives by their whole paths, as PATH names folders.
 const VARIABLE: &str = "LEGGING_ARCHIVE";
 
-/// The crates whose archives they are without it, as `rt lib` writes them.
-const CRATES: [&str; 2] = ["c_api", "dispatch"];
+/// What they are without it, in target/staticlib.
+const ARCHIVES: [&str; 2] = ["libc_api.a", "libdispatch.a"];
 
 fn main() {
     println!("cargo:rerun-if-env-changed={VARIABLE}");
@@ -26,10 +26,8 @@ fn archives() -> Vec<PathBuf> {
         Some(paths) => env::split_paths(&paths).collect(),
         None => {
             let package = env::var_os("CARGO_MANIFEST_DIR").unwrap_or_default();
-            let crates = Path::new(&package).join("../../crates");
-            CRATES
-                .map(|name| crates.join(format!("{name}/out/lib{name}.a")))
-                .into()
+            let folder = Path::new(&package).join("../../target/staticlib");
+            ARCHIVES.map(|name| folder.join(name)).into()
         }
     }
 }
@@ -39,8 +37,9 @@ fn link(archive: &Path) {
     if !archive.is_file() {
         eprintln!(
             "the archive is not there: {}\n\
-             write it with `rt lib` in the folder crates/c_api or crates/dispatch, or name\n\
-             others by the variable {VARIABLE}",
+             copy it from what `rt lib` writes in the folder crates/c_api_c or\n\
+             crates/dispatch_c, out/libc_api_c.a or out/libdispatch_c.a, or name others by\n\
+             the variable {VARIABLE}",
             archive.display()
         );
         exit(1);

@@ -14,8 +14,7 @@ use rules::Settings;
 use set_reader::Resumed;
 
 // The run, for a host: messages in, the report out, and the number that ended it returned.
-#[unsafe(no_mangle)]
-pub extern "C" fn legging_run(messages: &[u8], report: &mut [u8]) -> u8
+pub fn legging_run(messages: &[u8], report: &mut [u8]) -> u8
     ensures { (result ≡ (calls.run (length report.old) messages.now).returned.number) × (report.new ≡ (calls.run (length report.old) messages.now).report) }
 {
     let r = engine::run(messages, report);
@@ -23,8 +22,7 @@ pub extern "C" fn legging_run(messages: &[u8], report: &mut [u8]) -> u8
 }
 
 // The first venue of a host's memory: the fresh one, as `state` holds it. A memory of another length can hold none.
-#[unsafe(no_mangle)]
-pub extern "C" fn legging_fresh(venue: &mut [u8]) -> u8
+pub fn legging_fresh(venue: &mut [u8]) -> u8
     ensures { first_venue result venue.new ≡ fresh_hosted venue.old }
 {
     if venue.len() != venue_bytes::VENUE_SIZE {
@@ -37,8 +35,7 @@ pub extern "C" fn legging_fresh(venue: &mut [u8]) -> u8
 
 // One message upon the venue in a host's memory, as `state` holds it; the number is returned. Only an accepted message writes that memory.
 // One of another length holds no venue.
-#[unsafe(no_mangle)]
-pub extern "C" fn legging_message(
+pub fn legging_message(
     venue: &mut [u8],
     before: u32,
     message: &[u8],
@@ -61,8 +58,7 @@ pub extern "C" fn legging_message(
 }
 
 // The two lines of a feed, for a host: the report out, and the number that ended it returned.
-#[unsafe(no_mangle)]
-pub extern "C" fn legging_feed<'a>(main: &'a [u8], spare: &'a [u8], report: &mut [u8]) -> u8
+pub fn legging_feed<'a>(main: &'a [u8], spare: &'a [u8], report: &mut [u8]) -> u8
     ensures { (result ≡ (feeding.feed (length report.old) main.now spare.now).returned.number) × (report.new ≡ (feeding.feed (length report.old) main.now spare.now).report) }
 {
     let r = feed_run::feed(main, spare, report);
@@ -82,8 +78,7 @@ fn put_settings(out: &mut [u8], s: Settings)
 
 // The settings of the venue in a host's memory at a message number: the eight increments, then the percent, in the first nine bytes of the memory for
 // them, and zero in each byte after; the number is returned. A memory of another length holds no venue, and one of fewer bytes no settings.
-#[unsafe(no_mangle)]
-pub extern "C" fn legging_settings(venue: &[u8], number: u32, settings: &mut [u8]) -> u8
+pub fn legging_settings(venue: &[u8], number: u32, settings: &mut [u8]) -> u8
     ensures { told result settings.new ≡ settings_hosted venue.now number (length settings.old) }
 {
     records::zero_from(settings, 0);
@@ -110,8 +105,7 @@ fn put_number(out: &mut [u8], x: u32)
 
 // The venue in a host's memory and the number of its last message, written as a set from the front of the set's memory on; zero in each byte after, and how
 // many the set has in the four bytes of `written`. The number is returned. A memory of another length holds no venue or no count.
-#[unsafe(no_mangle)]
-pub extern "C" fn legging_write_set(
+pub fn legging_write_set(
     venue: &[u8],
     number: u32,
     set: &mut [u8],
@@ -145,8 +139,7 @@ fn read_for(set: &[u8], room: usize) -> Resumed
 
 // The venue and the message number of a set, in a host's memory for either; the number is returned. A refused set is a fresh venue and zeros. A memory of
 // another length can hold no venue, and is as it was.
-#[unsafe(no_mangle)]
-pub extern "C" fn legging_read_set(set: &[u8], venue: &mut [u8], number: &mut [u8]) -> u8
+pub fn legging_read_set(set: &[u8], venue: &mut [u8], number: &mut [u8]) -> u8
     ensures { resumes_as result venue.new number.new ≡ resume_hosted set.now venue.old number.old }
 {
     records::zero_from(number, 0);

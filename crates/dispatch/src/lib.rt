@@ -13,8 +13,7 @@ use rules::Returned;
 // A fresh layer -------------------------------------------------------------------------------
 
 // The first layer of a host's memory. A memory of another length can hold none.
-#[unsafe(no_mangle)]
-pub extern "C" fn legging_layer_fresh(layer: &mut [u8]) -> u8
+pub fn legging_layer_fresh(layer: &mut [u8]) -> u8
     ensures { reply_of result layer.new ≡ fresh_held layer.old }
 {
     if layer.len() != lanes::LAYER {
@@ -135,16 +134,14 @@ pub fn turn(layer: &mut [u8], report: &mut [u8]) -> TurnReturned
 // For a host ------------------------------------------------------------------------------------
 
 // An arrival.
-#[unsafe(no_mangle)]
-pub extern "C" fn legging_arrive(layer: &mut [u8], venue: u32, message: &[u8]) -> u8
+pub fn legging_arrive(layer: &mut [u8], venue: u32, message: &[u8]) -> u8
     ensures { reply_of result layer.new ≡ arrive_held layer.old venue message.now }
 {
     arrive(layer, venue, message)
 }
 
 // A turn: its number, and 256 times the venue served.
-#[unsafe(no_mangle)]
-pub extern "C" fn legging_turn(layer: &mut [u8], report: &mut [u8]) -> u32
+pub fn legging_turn(layer: &mut [u8], report: &mut [u8]) -> u32
     ensures { told_of result layer.new report.new ≡ host_turn (turn_held layer.old (length report.old)) }
 {
     let r = turn(layer, report);

@@ -12,7 +12,7 @@ pub fn described() -> String {
         "release build (opt-level 3)"
     };
     format!(
-        "- machine: {}, {cores} cores\n- reference: {}, {profile}; engine: the archive of the crate c_api\n- commit: {}\n",
+        "- machine: {}, {cores} cores\n- reference: {}, {profile}; engine: the archive of the crate c_api_c\n- commit: {}\n",
         processor(),
         said_by("rustc", &["--version"]),
         said_by("git", &["describe", "--always", "--dirty"]),

@@ -1,5 +1,5 @@
 //! The legging order engine for Rust hosts: a safe wrapper over the archives that `rt lib`
-//! writes for the crate c_api and, for four venues behind one line, for dispatch.
+//! writes for the crate c_api_c and, for four venues behind one line, for dispatch_c.
 //!
 //! A host holds a [`Venue`] and hands it one [`Message`] after another; a [`Set`] carries
 //! it over an upgrade, and a [`Layer`] is four venues behind one line. After a call

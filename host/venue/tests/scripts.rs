@@ -10,7 +10,8 @@ use std::process::{Command, Output, Stdio};
 const PRINTED_TEXT: &str = include_str!("sessions/printed.txt");
 
 const CRATES: &str = "# crates\nrules:\nwire: rules\n\nsheet: rules wire # a program\n\
-    short_sheets: rules\nc_api staticlib: wire\ndispatch staticlib: wire\nother: sheet\n";
+    short_sheets: rules\nc_api: wire\ndispatch: wire\nc_api_c staticlib: c_api\n\
+    dispatch_c staticlib: dispatch\nother: sheet\n";
 
 /// Proves a crate and those below it, and makes its program or archive; refuses where the file
 /// refuse is there. A program whose name stands in the file fails ends with that status.
@@ -39,6 +40,7 @@ echo begin >>turns
 [ ! -e slow ] || sleep 1
 prove rules
 [ "$me" = short_sheets ] || prove wire
+case $me in *_c) prove "${me%_c}" ;; esac
 prove "$me"
 status=0
 case $1 in
@@ -94,6 +96,8 @@ impl Tree {
             "short_sheets",
             "c_api",
             "dispatch",
+            "c_api_c",
+            "dispatch_c",
         ] {
             fs::create_dir_all(root.join("crates").join(name).join("src")).unwrap();
         }
@@ -419,7 +423,7 @@ fn scripts_name_crates_that_there_are() {
         programs.extend(archives.split_whitespace().map(str::to_string));
     }
     programs.sort();
-    assert_eq!(programs, ["c_api", "dispatch", "sheet", "short_sheets"]);
+    assert_eq!(programs, ["c_api_c", "dispatch_c", "sheet", "short_sheets"]);
     for program in programs {
         assert!(named(&program), "{program} is no crate");
     }
@@ -497,13 +501,13 @@ fn a_comparison_proves_and_builds_what_it_needs() {
         (0, "compare session --text -- a b\n"),
         "{said}"
     );
-    assert_eq!(tree.read("calls"), "lib c_api\nlib dispatch\n");
+    assert_eq!(tree.read("calls"), "lib c_api_c\nlib dispatch_c\n");
     assert!(
-        said.contains("bin/venue: 2 of 4 crates proved: wire\n"),
+        said.contains("bin/venue: 2 of 6 crates proved: wire\n"),
         "{said}"
     );
     assert!(
-        said.contains("bin/venue: 4 of 4 crates proved: dispatch\n"),
+        said.contains("bin/venue: 6 of 6 crates proved: dispatch_c\n"),
         "{said}"
     );
     // What rt makes beside the sources is no source.
@@ -529,7 +533,7 @@ fn a_comparison_without_its_program_tells_how_it_is_built() {
     );
     assert!(said.starts_with(&start), "{said}");
     assert!(
-        said.contains("\n  (cd crates/c_api && rt lib) &&"),
+        said.contains("\n  (cd crates/c_api_c && rt lib) &&"),
         "{said}"
     );
     assert_eq!((status, printed.as_str()), (1, ""));
@@ -561,7 +565,7 @@ fn an_installation_proves_and_builds_what_is_missing() {
     assert_eq!((status, placed.lines().count()), (0, 12), "{said}");
     for expected in [
         "bin/install: proving and building the engine's archives and all that they stand on: about 7 minutes\n",
-        "bin/install: proving dispatch and writing crates/dispatch/out/libdispatch.a\n",
+        "bin/install: proving dispatch_c and writing target/staticlib/libdispatch.a\n",
         "bin/install: proving and building the program and all that it stands on, 3 crates, this once: about 5 minutes\n",
         "bin/install: building host/target/release/venue, this once\n",
     ] {

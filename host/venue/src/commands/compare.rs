@@ -36,7 +36,10 @@ const BUILT_BY: &str = "\
 build it from the top of the repository with
   bin/venue compare SESSION
 or by hand with
-  (cd crates/c_api && rt lib) && (cd crates/dispatch && rt lib)
+  (cd crates/c_api_c && rt lib) && (cd crates/dispatch_c && rt lib)
+  mkdir -p target/staticlib
+  cp crates/c_api_c/out/libc_api_c.a target/staticlib/libc_api.a
+  cp crates/dispatch_c/out/libdispatch_c.a target/staticlib/libdispatch.a
   cargo build --release --offline --manifest-path host/Cargo.toml -p venue -p compare";
 
 /// Becomes the program compare; what comes back is a failure to.
