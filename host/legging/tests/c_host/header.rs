@@ -105,11 +105,11 @@ fn tables_of_the_header_are_those_of_the_definitions() {
     );
     // The definitions' own names for them.
     for (name, table) in [
-        ("editionsAt", "EDITIONS"),
-        ("reservesAt", "SHOWN"),
-        ("ratiosAt", "RATIOS"),
-        ("generationsAt", "GENERATIONS"),
-        ("reachedAt", "REACHED"),
+        ("editions_at", "EDITIONS"),
+        ("reserves_at", "SHOWN"),
+        ("ratios_at", "RATIOS"),
+        ("generations_at", "GENERATIONS"),
+        ("reached_at", "REACHED"),
     ] {
         let line = format!("\n{name} = {}\n", in_header(&macros, table).0);
         assert!(HELD.contains(&line), "{line}");
