@@ -35,12 +35,7 @@ pub fn legging_fresh(venue: &mut [u8]) -> u8
 
 // One message upon the venue in a host's memory, as `state` holds it; the number is returned. Only an accepted message writes that memory.
 // One of another length holds no venue.
-pub fn legging_message(
-    venue: &mut [u8],
-    before: u32,
-    message: &[u8],
-    report: &mut [u8],
-) -> u8
+pub fn legging_message(venue: &mut [u8], before: u32, message: &[u8], report: &mut [u8]) -> u8
     ensures { hosted result venue.new report.new ≡ one_hosted venue.old before (length report.old) message.now }
 {
     if venue.len() != venue_bytes::VENUE_SIZE {
@@ -105,12 +100,7 @@ fn put_number(out: &mut [u8], x: u32)
 
 // The venue in a host's memory and the number of its last message, written as a set from the front of the set's memory on; zero in each byte after, and how
 // many the set has in the four bytes of `written`. The number is returned. A memory of another length holds no venue or no count.
-pub fn legging_write_set(
-    venue: &[u8],
-    number: u32,
-    set: &mut [u8],
-    written: &mut [u8],
-) -> u8
+pub fn legging_write_set(venue: &[u8], number: u32, set: &mut [u8], written: &mut [u8]) -> u8
     ensures { saves_as result set.new written.new ≡ save_hosted venue.now number (length set.old) (length written.old) }
 {
     records::zero_from(set, 0);
