@@ -59,7 +59,9 @@ pub fn arrive(layer: &mut [u8], venue: u32, message: &[u8]) -> u8
 
 // A turn --------------------------------------------------------------------------------------
 
-// The one-message call with the message at the head of a lane's wait.
+// The one-message call with the message at the head of a lane's wait. It is compiled by itself: the stack that it takes is free again when the turn writes
+// the venue.
+#[inline(never)]
 fn call_head(lane: &[u8], report: &mut [u8]) -> Returned
     requires { HeadReady lane.now }
     ensures { call_of result report.new ≡ head_called lane.now (length report.old) }

@@ -2,7 +2,8 @@
 // read and write places, and speak of the venue that the numbers stand for.
 #![tactic(auto)]
 
-ghost use Rattle.std.specs.Prelude.{◌≡◌, min, ◌-◌, ◌≤◌, pos, ◌-ℤ◌, length, get_or};
+ghost use Rattle.std.specs.Prelude.{◌≡◌, min, ◌-◌, ◌≤◌, pos, ◌-ℤ◌, length, get_or, replicate};
+ghost use Rattle.rules.specs.Words.{no_regular};
 ghost use Rattle.rules.specs.Settings.{figure_now, free_edition};
 ghost use Rattle.rules.specs.Generation.{generations_of};
 ghost use Rattle.rules.specs.Step.{mask};
@@ -355,13 +356,12 @@ pub fn level_at(numbers: &[u32], n: usize) -> Level
 
 // The venue anew, part by part ----------------------------------------------------------------
 
-// The regular orders, place by place.
-fn regulars_of(numbers: &[u32]) -> [Regular; 128]
-    requires { length numbers.now ≡ size }
-    ensures { result ≡ (venue_of numbers.now).regular }
+// The regular orders, place by place, in the places of a table that is free. They are most of a venue: no copy of them is made upon the stack.
+fn read_regulars(r: &mut [Regular; 128], numbers: &[u32])
+    requires whole { length numbers.now ≡ size }
+    requires free { r.old ≡ replicate 128 no_regular }
+    ensures { r.new ≡ (venue_of numbers.now).regular }
 {
-    let free = rules::NO_REGULAR;
-    let mut r = [free; 128];
     let n = regulars_used(numbers);
     let mut i: usize = 0;
     while i < n {
@@ -369,7 +369,6 @@ fn regulars_of(numbers: &[u32]) -> [Regular; 128]
         r[i] = x;
         i += 1;
     }
-    r
 }
 
 // The complex orders, place by place.
@@ -467,12 +466,12 @@ fn generations_of(numbers: &[u32]) -> [Generations; 8]
     r
 }
 
-// The venue that the numbers stand for.
+// The venue that the numbers stand for. This function is compiled by itself, so that a call with a venue on its stack does not hold these tables as well.
+#[inline(never)]
 pub fn venue_of(numbers: &[u32]) -> Venue
     requires { length numbers.now ≡ size }
     ensures { result ≡ venue_of numbers.now }
 {
-    let regular = regulars_of(numbers);
     let complex = complexes_of(numbers);
     let legging = leggings_of(numbers);
     let series = series_of(numbers);
@@ -480,8 +479,8 @@ pub fn venue_of(numbers: &[u32]) -> Venue
     let generations = generations_of(numbers);
     let last = last_id(numbers);
     let reached = reached_id(numbers);
-    Venue {
-        regular,
+    let mut v = Venue {
+        regular: [rules::NO_REGULAR; 128],
         complex,
         legging,
         series,
@@ -489,5 +488,7 @@ pub fn venue_of(numbers: &[u32]) -> Venue
         generations,
         last,
         reached,
-    }
+    };
+    read_regulars(&mut v.regular, numbers);
+    v
 }

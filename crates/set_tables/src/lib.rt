@@ -273,7 +273,8 @@ pub fn first_told(memory: &[u8], at: usize) -> u32
     wire::u32_at(&memory[0..end], at)
 }
 
-// The venue that the records of a set tell.
+// The venue that the records of a set tell. This function is compiled by itself: the stack that it takes is free again when the venue is checked.
+#[inline(never)]
 pub fn venue_told(memory: &[u8]) -> Venue
     requires { ReadableSet memory.now }
     ensures { result ≡ venue_told (row_in memory.now) }

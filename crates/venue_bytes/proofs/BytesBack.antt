@@ -1,13 +1,12 @@
 -- The bytes that a venue was read from are written again.
 use mathlib.Core.Path.{◌≡◌, refl, sym, ap, subst, ◌∙◌}
-use mathlib.Core.List.{List, [], ◌∷◌, ◌++◌}
+use mathlib.Core.List.{List, [], ◌++◌}
 use Prim.Native.Nat.{ℕ, zero, suc, ◌+◌, ◌*◌, ◌≤◌, ◌<◌}
 use native.Mathlib.Nat.{mul-suc, mul-le-mul_left}
 use native.Mathlib.Omega.{arith}
 use lib.ListN.{length, get_or, drop, length-append, length-drop}
 use lib.Seq.{drop-drop}
-use Rattle.rules.specs.declared.Generations.{Generations}
-use Rattle.rules.specs.Bytes.{u8_at, u32_at, as_unsigned, as_signed, bytes, u8, u32}
+use Rattle.rules.specs.Bytes.{u8_at, u32_at, bytes, u8, u32}
 use Rattle.wire.proofs.Numbers.{u32-here}
 use Rattle.places.specs.Layout.{upto}
 use Rattle.places.proofs.Tables.{upto-length, upto-at, upto-along}
@@ -19,7 +18,7 @@ use Rattle.venue_bytes.specs.Held.{row_at, rows_at, venue_from, regular_from, co
 use Rattle.venue_bytes.specs.Held.{BytesBack, EqualBytes}
 use Rattle.venue_bytes.proofs.Rows.{rows-length}
 use Rattle.venue_bytes.proofs.Widths.{regular-width, complex-width, legging-width, listed-width, edition-width, reserve-width, ratio-width}
-use Rattle.venue_bytes.proofs.Widths.{number-width, messages-many, generations-width}
+use Rattle.venue_bytes.proofs.Widths.{number-width, generations-width}
 
 -- the first n bytes of s are these
 record First (s : List ℕ) (n : ℕ) (xs : List ℕ) : Type 0 where

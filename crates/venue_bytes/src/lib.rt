@@ -1,7 +1,8 @@
 // A venue held as bytes (specs/Held.antt): read.
 #![tactic(auto)]
 
-ghost use Rattle.std.specs.Prelude.{◌≡◌, ◌≤◌, length};
+ghost use Rattle.std.specs.Prelude.{◌≡◌, ◌≤◌, length, replicate};
+ghost use Rattle.rules.specs.Words.{no_regular};
 ghost use Rattle.venue_bytes.specs.Held.{venue_size};
 ghost use Rattle.venue_bytes.specs.Held.{regular_from, complex_from, legging_from, listed_from, edition_from, generations_from, venue_from};
 
@@ -116,13 +117,12 @@ fn generations_from(row: &[u8]) -> Generations
 
 // The venue read, table by table --------------------------------------------------------------
 
-// The regular orders that the bytes hold.
-fn regulars_from(bytes: &[u8]) -> [Regular; 128]
-    requires { length bytes.now ≡ venue_size }
-    ensures { result ≡ (venue_from bytes.now).regular }
+// The regular orders that the bytes hold, in the places of a table that is free. They are most of a venue: no copy of them is made upon the stack.
+fn read_regulars(r: &mut [Regular; 128], bytes: &[u8])
+    requires whole { length bytes.now ≡ venue_size }
+    requires free { r.old ≡ replicate 128 no_regular }
+    ensures { r.new ≡ (venue_from bytes.now).regular }
 {
-    let free = rules::NO_REGULAR;
-    let mut r = [free; 128];
     let mut i: usize = 0;
     while i < 128 {
         let at = 14 * i;
@@ -131,7 +131,6 @@ fn regulars_from(bytes: &[u8]) -> [Regular; 128]
         r[i] = x;
         i += 1;
     }
-    r
 }
 
 // The complex orders that the bytes hold.
@@ -220,12 +219,12 @@ fn all_generations_from(bytes: &[u8]) -> [Generations; 8]
     r
 }
 
-// The venue that the bytes hold.
+// The venue that the bytes hold. This function is compiled by itself, as `venue_of` of crate places is.
+#[inline(never)]
 pub fn venue_from(bytes: &[u8]) -> Venue
     requires { length bytes.now ≡ venue_size }
     ensures { result ≡ venue_from bytes.now }
 {
-    let regular = regulars_from(bytes);
     let complex = complexes_from(bytes);
     let legging = leggings_from(bytes);
     let series = series_from(bytes);
@@ -233,8 +232,8 @@ pub fn venue_from(bytes: &[u8]) -> Venue
     let editions = editions_from(bytes);
     let generations = all_generations_from(bytes);
     let reached = wire::word_at(bytes, REACHED_AT);
-    Venue {
-        regular,
+    let mut v = Venue {
+        regular: [rules::NO_REGULAR; 128],
         complex,
         legging,
         series,
@@ -242,5 +241,7 @@ pub fn venue_from(bytes: &[u8]) -> Venue
         generations,
         last,
         reached,
-    }
+    };
+    read_regulars(&mut v.regular, bytes);
+    v
 }

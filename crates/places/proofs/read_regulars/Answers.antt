@@ -1,18 +1,18 @@
--- `places::regulars_of` meets its contract.
-use mathlib.Core.Path.{refl, ap}
+-- `places::read_regulars` meets its contract.
+use mathlib.Core.Path.{ap}
 use native.Mathlib.Omega.{arith}
 use lib.ListN.{length}
 use Rattle.rules.specs.Words.{no_regular}
 use Rattle.places.specs.Layout.{upto, in_use, regular_in, venue_of}
 use Rattle.places.proofs.Tables.{used-length, used-next, used-done}
-use Rattle.places.proofs.regulars_of.Goals as goal
+use Rattle.places.proofs.read_regulars.Goals as goal
 
 pub loop-i-init : goal.loop-i-init
 unfolding in_use upto
-loop-i-init c = (omega arith, refl)
+loop-i-init c = (omega arith, c.requires.free)
 
 pub regular_at-x-requires : goal.regular_at-x-requires
-regular_at-x-requires c = record { whole = c.requires; place = omega arith }
+regular_at-x-requires c = record { whole = c.requires.whole; place = omega arith }
 
 pub bounds-r-i : goal.bounds-r-i
 bounds-r-i c = let z = ap length c.loop-i.invariant.1 in

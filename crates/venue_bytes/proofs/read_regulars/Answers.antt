@@ -1,5 +1,5 @@
--- `venue_bytes::regulars_from` meets its contract.
-use mathlib.Core.Path.{refl, ap, ◌∙◌}
+-- `venue_bytes::read_regulars` meets its contract.
+use mathlib.Core.Path.{ap, ◌∙◌}
 use native.Mathlib.Omega.{arith}
 use lib.ListN.{length}
 use Rattle.rules.specs.Words.{no_regular}
@@ -7,11 +7,11 @@ use Rattle.places.specs.Layout.{upto, in_use}
 use Rattle.places.proofs.Tables.{used-length, used-next, used-done, whole}
 use Rattle.venue_bytes.specs.Held.{reserves_at, regular_from, rows_at, venue_from}
 use Rattle.venue_bytes.proofs.Rows.{rows-read}
-use Rattle.venue_bytes.proofs.regulars_from.Goals as goal
+use Rattle.venue_bytes.proofs.read_regulars.Goals as goal
 
 pub loop-i-init : goal.loop-i-init
 unfolding in_use upto
-loop-i-init c = (omega arith, refl)
+loop-i-init c = (omega arith, c.requires.free)
 
 pub bounds-r-i : goal.bounds-r-i
 bounds-r-i c = let z = ap length c.loop-i.invariant.1 in
