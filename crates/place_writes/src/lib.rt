@@ -204,7 +204,7 @@ pub fn write_edition(numbers: &mut [u32], i: usize, e: Edition)
     numbers[4 * i + places::EDITION_VALUE_AT] = e.value as u32;
 }
 
-// The figures of edition 0. An archive has this function once, and its constants with it.
+// The figures of edition 0. This function is compiled by itself: an archive has it once, and keeps no constants for it.
 #[inline(never)]
 pub fn base_figures(numbers: &mut [u32])
     requires { length numbers.old ≡ size }

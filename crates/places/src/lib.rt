@@ -356,7 +356,8 @@ pub fn level_at(numbers: &[u32], n: usize) -> Level
 
 // The venue anew, part by part ----------------------------------------------------------------
 
-// The regular orders, place by place, in the places of a table that is free. They are most of a venue: no copy of them is made upon the stack.
+// The regular orders, place by place, in the places of a table that is free. They are most of a venue: the venue's own table is filled, and no second one
+// stands on the stack.
 fn read_regulars(r: &mut [Regular; 128], numbers: &[u32])
     requires whole { length numbers.now ≡ size }
     requires free { r.old ≡ replicate 128 no_regular }
@@ -466,7 +467,7 @@ fn generations_of(numbers: &[u32]) -> [Generations; 8]
     r
 }
 
-// The venue that the numbers stand for. This function is compiled by itself, so that a call with a venue on its stack does not hold these tables as well.
+// The venue that the numbers stand for. This function is compiled by itself: the stack that its tables take is free again when it returns.
 #[inline(never)]
 pub fn venue_of(numbers: &[u32]) -> Venue
     requires { length numbers.now ≡ size }

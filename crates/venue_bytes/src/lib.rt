@@ -117,7 +117,8 @@ fn generations_from(row: &[u8]) -> Generations
 
 // The venue read, table by table --------------------------------------------------------------
 
-// The regular orders that the bytes hold, in the places of a table that is free. They are most of a venue: no copy of them is made upon the stack.
+// The regular orders that the bytes hold, in the places of a table that is free. They are most of a venue: the venue's own table is filled, and no
+// second one stands on the stack.
 fn read_regulars(r: &mut [Regular; 128], bytes: &[u8])
     requires whole { length bytes.now ≡ venue_size }
     requires free { r.old ≡ replicate 128 no_regular }
