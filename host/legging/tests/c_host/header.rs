@@ -11,12 +11,20 @@ use sessions::record::{print_sheet, read_report};
 use sessions::text::encode_session;
 use std::collections::{BTreeMap, BTreeSet};
 use std::process::Command;
+use std::sync::OnceLock;
 
 const HEADER: &str = include_str!("../../../../include/legging.h");
 const HELD: &str = include_str!("../../../../crates/venue_bytes/specs/Held.antt");
 
-/// Every macro of the header that is a number, as a compiler of C has it.
-fn macros() -> BTreeMap<String, usize> {
+/// Every macro of the header that is a number, as a compiler of C has it. The tests run
+/// beside one another, and the program that prints the macros is made once.
+fn macros() -> &'static BTreeMap<String, usize> {
+    static MACROS: OnceLock<BTreeMap<String, usize>> = OnceLock::new();
+    MACROS.get_or_init(printed_macros)
+}
+
+/// The macros as a program in C prints them.
+fn printed_macros() -> BTreeMap<String, usize> {
     let defined = HEADER
         .lines()
         .filter_map(|line| line.strip_prefix("#define "));
@@ -92,7 +100,7 @@ fn in_definitions() -> Vec<Table> {
 #[test]
 fn tables_of_the_header_are_those_of_the_definitions() {
     let macros = macros();
-    let tables = TABLES.map(|name| in_header(&macros, name));
+    let tables = TABLES.map(|name| in_header(macros, name));
     assert_eq!(tables.to_vec(), in_definitions());
     let mut end = 0;
     for (at, rows, bytes) in tables {
@@ -138,7 +146,7 @@ fn place_of(set: impl FnOnce(&mut Venue)) -> usize {
 fn rows_of_the_header_hold_what_it_says() {
     let macros = macros();
     let row = |name: &str, row: usize| {
-        let (at, rows, bytes) = in_header(&macros, name);
+        let (at, rows, bytes) = in_header(macros, name);
         assert!(row < rows, "{name}");
         at + row * bytes
     };
