@@ -1,8 +1,7 @@
 # Sourced by the scripts of bin/: what they say, and how they prove and build. A script sets `me` to its name first.
 
-# How many minutes the crates of a program, and those of the archives, take from nothing on two cores.
-MINUTES=5
-ARCHIVE_MINUTES=7
+# How many minutes the crates of the archives take from nothing. The crates of a program are fewer, and take less.
+MINUTES=20
 
 # The crates whose archives hosts link: the calls of one venue, and those of four behind one line.
 ARCHIVES=(c_api_c dispatch_c)
@@ -109,7 +108,7 @@ prove_program() {
     order=$(needed "$1")
     begin_proving "$1"
     [ -x "$top/target/bin/$1" ] ||
-        say "proving and building the program and all that it stands on, $whole crates, this once: about $MINUTES minutes"
+        say "proving and building the program and all that it stands on, $whole crates, this once: up to $MINUTES minutes"
     # shellcheck disable=SC2086
     (in_crate "$1" run) | follow $order || status=$?
     # Where rt has come to run the program, the program is proved, and the status is its own.
@@ -150,7 +149,7 @@ archives() {
     [ "$needs" = yes ] || return 0
     order=$(needed "${ARCHIVES[@]}")
     begin_proving "${ARCHIVES[@]}"
-    say "proving and building the engine's archives and all that they stand on: about $ARCHIVE_MINUTES minutes"
+    say "proving and building the engine's archives and all that they stand on: about $MINUTES minutes"
     for name in "${ARCHIVES[@]}"; do
         archive=$(archive_of "$name")
         say "proving $name and writing $archive"

@@ -194,7 +194,7 @@ fn the_first_sheet_tells_how_long_it_takes_and_what_is_proved() {
         "{said}"
     );
     let expected = "bin/sheet: proving and building the program and all that it stands on, \
-        3 crates, this once: about 5 minutes\n\
+        3 crates, this once: up to 20 minutes\n\
         bin/sheet: 1 of 3 crates proved: rules\n\
         bin/sheet: 2 of 3 crates proved: wire\n\
         bin/sheet: 3 of 3 crates proved: sheet\n";
@@ -371,7 +371,7 @@ fn any_bytes_are_taken_where_that_is_asked_for() {
         assert_eq!(status, 2);
     }
     let (status, help, _) = tree.run("bin/sheet", &["--help"]);
-    assert!(help.contains("about 5 minutes"), "{help}");
+    assert!(help.contains("up to 20 minutes"), "{help}");
     assert_eq!(status, 0);
 }
 
@@ -564,9 +564,9 @@ fn an_installation_proves_and_builds_what_is_missing() {
     let (status, placed, said) = tree.run("bin/install", &["prefix"]);
     assert_eq!((status, placed.lines().count()), (0, 12), "{said}");
     for expected in [
-        "bin/install: proving and building the engine's archives and all that they stand on: about 7 minutes\n",
+        "bin/install: proving and building the engine's archives and all that they stand on: about 20 minutes\n",
         "bin/install: proving dispatch_c and writing target/staticlib/libdispatch.a\n",
-        "bin/install: proving and building the program and all that it stands on, 3 crates, this once: about 5 minutes\n",
+        "bin/install: proving and building the program and all that it stands on, 3 crates, this once: up to 20 minutes\n",
         "bin/install: building host/target/release/venue, this once\n",
     ] {
         assert!(said.contains(expected), "{said}");
