@@ -10,27 +10,23 @@ use Rattle.demands.specs.Soundness.{SoundVenue}
 
 -- numbers without gaps that stand for a sound venue
 pub record SoundNumbers (b : List ℕ) : Type 0 where
-  pub whole : length b ≡ size
   pub dense : Dense b
   pub sound : SoundVenue (venue_of b)
 
 -- numbers of a sound venue, and an order that shows what it should
 pub record SoundOrder (b : List ℕ) (o : Regular) : Type 0 where
-  pub whole : length b ≡ size
   pub dense : Dense b
   pub sound : SoundVenue (venue_of b)
   pub fully : shows_fully o ≡ true
 
 -- numbers of a sound venue, and a complex order in range
 pub record SoundComplex (b : List ℕ) (c : Complex) : Type 0 where
-  pub whole : length b ≡ size
   pub dense : Dense b
   pub sound : SoundVenue (venue_of b)
   pub in_range : complex_in_range c ≡ true
 
 -- numbers of a sound venue, and a complex order one to one
 pub record SoundPair (b : List ℕ) (c : Complex) : Type 0 where
-  pub whole : length b ≡ size
   pub dense : Dense b
   pub sound : SoundVenue (venue_of b)
   pub pair : one_to_one c ≡ true

@@ -3,9 +3,10 @@
 
 ghost use Rattle.rules.specs.Effects.{nothing};
 ghost use Rattle.rules.specs.Step.{answered};
-ghost use Rattle.places.specs.Layout.{venue_of};
+ghost use Rattle.places.specs.Layout.{venue_of, Dense, Right};
 ghost use Rattle.answers.specs.Steps.{Finishes, Steps};
-ghost use Rattle.places.specs.Requirements.{RightNumbers, DenseNumbers};
+
+use places::Numbers;
 
 // A message's refusal (0: accepted), and the position after its records.
 #[derive(Clone, Copy)]
@@ -15,8 +16,8 @@ pub struct Stepped {
 }
 
 // A refused message: its answer, and nothing else.
-pub fn refuse(numbers: &[u32], number: u32, refused: u8, out: &mut [u8]) -> Stepped
-    requires { DenseNumbers numbers.now }
+pub fn refuse(numbers: &Numbers, number: u32, refused: u8, out: &mut [u8]) -> Stepped
+    requires { Dense numbers.now }
     ensures { Steps (answered number refused (nothing (venue_of numbers.now))) out.old result numbers.now out.new }
 {
     let mask = places::mask_of(numbers);
@@ -26,8 +27,8 @@ pub fn refuse(numbers: &[u32], number: u32, refused: u8, out: &mut [u8]) -> Step
 }
 
 // When an accepted message's effects are done: the gaps that they left are closed, and its answer, written first, is set.
-pub fn finish(numbers: &mut [u32], number: u32, out: &mut [u8], end: usize) -> Stepped
-    requires { RightNumbers numbers.old }
+pub fn finish(numbers: &mut Numbers, number: u32, out: &mut [u8], end: usize) -> Stepped
+    requires { Right numbers.old }
     ensures { Finishes number numbers.old out.old end result numbers.new out.new }
 {
     place_writes::close_gaps(numbers);

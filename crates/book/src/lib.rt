@@ -9,10 +9,11 @@ ghost use Rattle.rules.specs.Base.{Choice, ranked, first};
 ghost use Rattle.rules.specs.Words.{earlier};
 ghost use Rattle.rules.specs.Prices.{shows_for};
 ghost use Rattle.rules.specs.Order.{is_met, shown_then_id, price_then_id};
-ghost use Rattle.places.specs.Layout.{size, venue_of};
+ghost use Rattle.places.specs.Layout.{size, venue_of, Dense, Right};
 ghost use Rattle.book.specs.Picks.{pick_of, regular_found, complex_found};
-ghost use Rattle.places.specs.Requirements.{RightNumbers, DenseNumbers, RightSeries, RightShown};
+ghost use Rattle.places.specs.Requirements.{RightSeries, RightShown};
 
+use places::Numbers;
 use rules::Regular;
 
 // A regular order picked, with its place.
@@ -46,8 +47,8 @@ fn shows_for(o: Regular, series: u8, side: u8, price: u32) -> bool
 }
 
 // The earliest regular order that shows size at a price of a side. Only orders with the key of series and side are read whole.
-pub fn first_for(numbers: &[u32], series: u8, side: u8, price: u32) -> Pick
-    requires { RightNumbers numbers.now }
+pub fn first_for(numbers: &Numbers, series: u8, side: u8, price: u32) -> Pick
+    requires { Right numbers.now }
     ensures { result ≡ pick_of (first (shows_for series side price) earlier (venue_of numbers.now).regular) }
 {
     let key = arithmetic::place_of(series, side);
@@ -69,7 +70,7 @@ pub fn first_for(numbers: &[u32], series: u8, side: u8, price: u32) -> Pick
 
 // The regular order that one of this side and price in a series meets first, where every order shows some size: the earliest at the best price of the
 // other side, where this is reached.
-fn first_shown(numbers: &[u32], series: u8, side: u8, price: u32) -> Pick
+fn first_shown(numbers: &Numbers, series: u8, side: u8, price: u32) -> Pick
     requires { RightShown numbers.now series }
     ensures { result ≡ pick_of (first (is_met series side price) price_then_id (venue_of numbers.now).regular) }
 {
@@ -142,8 +143,7 @@ fn better_pick(best: Pick, n: usize, m: Regular) -> Pick
 }
 
 // The same where some order may show nothing of what is left of it: the first in rank of all that are met.
-fn first_ranked(numbers: &[u32], series: u8, side: u8, price: u32) -> Pick
-    requires { length numbers.now ≡ size }
+fn first_ranked(numbers: &Numbers, series: u8, side: u8, price: u32) -> Pick
     ensures { result ≡ pick_of (first (is_met series side price) price_then_id (venue_of numbers.now).regular) }
 {
     let key = arithmetic::place_of(series, arithmetic::opposite_of(side));
@@ -164,7 +164,7 @@ fn first_ranked(numbers: &[u32], series: u8, side: u8, price: u32) -> Pick
 }
 
 // The regular order that one of this side and price in a series meets first.
-pub fn first_met(numbers: &[u32], series: u8, side: u8, price: u32) -> Pick
+pub fn first_met(numbers: &Numbers, series: u8, side: u8, price: u32) -> Pick
     requires { RightSeries numbers.now series }
     ensures { result ≡ pick_of (first (is_met series side price) price_then_id (venue_of numbers.now).regular) }
 {
@@ -175,8 +175,8 @@ pub fn first_met(numbers: &[u32], series: u8, side: u8, price: u32) -> Pick
 }
 
 // The place of the resting regular order with an id: among the places from `low` to below `high`, where every place is held.
-pub fn regular_place(numbers: &[u32], id: u32) -> Found
-    requires { DenseNumbers numbers.now }
+pub fn regular_place(numbers: &Numbers, id: u32) -> Found
+    requires { Dense numbers.now }
     ensures { result ≡ regular_found (venue_of numbers.now) id }
 {
     let mut low: usize = 0;
@@ -197,8 +197,7 @@ pub fn regular_place(numbers: &[u32], id: u32) -> Found
 }
 
 // The place of the resting complex order with an id.
-pub fn complex_place(numbers: &[u32], id: u32) -> Found
-    requires { length numbers.now ≡ size }
+pub fn complex_place(numbers: &Numbers, id: u32) -> Found
     ensures { result ≡ complex_found (venue_of numbers.now) id }
 {
     let n = places::complexes_used(numbers);

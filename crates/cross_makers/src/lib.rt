@@ -14,6 +14,7 @@ ghost use Rattle.levels.specs.Requirements.{LegsReady, LegsPairReady};
 
 use arithmetic::limit_of;
 use levels::TakenLevels;
+use places::Numbers;
 use rules::Complex;
 
 // A complex order with its place, or none.
@@ -92,7 +93,7 @@ fn respects_legs(taken: TakenLevels, c: Complex, net: i64) -> bool
 }
 
 // The resting order m is a candidate for c.
-pub fn can_cross(numbers: &[u32], c: Complex, m: Complex) -> bool
+pub fn can_cross(numbers: &Numbers, c: Complex, m: Complex) -> bool
     requires { LegsPairReady numbers.now c m }
     ensures { result ≡ crosses (venue_of numbers.now) c m }
 {
@@ -162,7 +163,7 @@ fn is_either(key: usize, one: usize, two: usize) -> bool
 }
 
 // The resting order that c crosses with first. Of the others only those whose legs and ratios have the key are read.
-pub fn first_cross(numbers: &[u32], c: Complex) -> Maker
+pub fn first_cross(numbers: &Numbers, c: Complex) -> Maker
     requires { LegsReady numbers.now c }
     ensures { picked_of result ≡ first (crosses (venue_of numbers.now) c) limit_then_id (venue_of numbers.now).complex }
 {

@@ -16,10 +16,11 @@ ghost use Rattle.places.specs.Requirements.{ComplexesReady, RightComplex};
 use arithmetic::{lesser, limit_of};
 use cross_makers::Maker;
 use levels::TakenLevels;
+use places::Numbers;
 use rules::{Cause, Complex};
 
 // The orders at places i and j cross for k units at the limit of the latter; the legging orders of the taker go, then the maker's.
-pub fn cross(numbers: &mut [u32], i: usize, j: usize, k: u32, out: &mut [u8], at: usize) -> usize
+pub fn cross(numbers: &mut Numbers, i: usize, j: usize, k: u32, out: &mut [u8], at: usize) -> usize
     requires { ComplexesReady numbers.old i j }
     ensures result_after { stage (venue_of numbers.new) out.new result ≡ seen out.old at does cross i j k (venue_of numbers.old) }
     ensures counts { SameCounts numbers.old numbers.new }
@@ -34,7 +35,7 @@ pub fn cross(numbers: &mut [u32], i: usize, j: usize, k: u32, out: &mut [u8], at
 }
 
 // The order at place i crosses while there is one that it crosses with.
-pub fn cross_all(numbers: &mut [u32], i: usize, out: &mut [u8], at: usize) -> usize
+pub fn cross_all(numbers: &mut Numbers, i: usize, out: &mut [u8], at: usize) -> usize
     requires { RightComplex numbers.old i }
     ensures result_after { stage (venue_of numbers.new) out.new result ≡ seen out.old at does repeat (complex_at (venue_of numbers.old) i).quantity (cross_turn i) (venue_of numbers.old) }
     ensures counts { SameCounts numbers.old numbers.new }
@@ -58,7 +59,7 @@ pub fn cross_all(numbers: &mut [u32], i: usize, out: &mut [u8], at: usize) -> us
 }
 
 // The best own prices that c would take net to its limit or less.
-fn can_touch(numbers: &[u32], taken: TakenLevels, c: Complex) -> bool
+fn can_touch(numbers: &Numbers, taken: TakenLevels, c: Complex) -> bool
     requires { TakenReady numbers.now taken c }
     ensures { result ≡ touches (venue_of numbers.now) c }
 {
@@ -90,7 +91,7 @@ fn can_touch(numbers: &[u32], taken: TakenLevels, c: Complex) -> bool
 }
 
 // The sizes at the best own prices that c would take fill a unit of it.
-fn fills_unit(numbers: &[u32], taken: TakenLevels, c: Complex) -> bool
+fn fills_unit(numbers: &Numbers, taken: TakenLevels, c: Complex) -> bool
     requires { TakenReady numbers.now taken c }
     ensures { result ≡ fills_unit (venue_of numbers.now) c }
 {
@@ -105,7 +106,7 @@ fn fills_unit(numbers: &[u32], taken: TakenLevels, c: Complex) -> bool
 }
 
 // Why the legging orders that c touches go.
-fn touch_cause(numbers: &[u32], taken: TakenLevels, c: Complex) -> Cause
+fn touch_cause(numbers: &Numbers, taken: TakenLevels, c: Complex) -> Cause
     requires { TakenReady numbers.now taken c }
     ensures { result ≡ (if fills_unit (venue_of numbers.now) c then Touched else NoUnit) }
 {
@@ -116,7 +117,7 @@ fn touch_cause(numbers: &[u32], taken: TakenLevels, c: Complex) -> Cause
 }
 
 // The legging orders at the two sides that the order at place i would take go, where it touches.
-pub fn touch(numbers: &mut [u32], i: usize, out: &mut [u8], at: usize) -> usize
+pub fn touch(numbers: &mut Numbers, i: usize, out: &mut [u8], at: usize) -> usize
     requires { RightComplex numbers.old i }
     ensures result_after { stage (venue_of numbers.new) out.new result ≡ seen out.old at does touch i (venue_of numbers.old) }
     ensures counts { SameCounts numbers.old numbers.new }

@@ -29,7 +29,6 @@ pub record Turned (before : Outcome) (done written : ℕ) (l₀ : List ℕ) (num
 
 -- what a turn of a run asks: a sound venue, a message or what is torn at the position, and room
 pub record RunReady (t : RunProgress) (head : Head) (b m l : List ℕ) : Type 0 where
-  pub slice : length b ≡ size
   pub dense : Dense b
   pub sound : SoundAt (suc t.done) (venue_of b)
   pub ahead : t.at < length m

@@ -6,6 +6,7 @@ ghost use Rattle.rules.specs.Calls.{called, ends};
 ghost use Rattle.rules.specs.Calls as calls;
 ghost use Rattle.engine.specs.Runs.{RunReady, Advances, call_of};
 
+use places::Numbers;
 use reader::Head;
 use rules::{Returned, Venue};
 
@@ -24,7 +25,7 @@ pub struct RunProgress {
 fn advance(
     t: RunProgress,
     head: Head,
-    numbers: &mut [u32],
+    numbers: &mut Numbers,
     messages: &[u8],
     report: &mut [u8],
 ) -> RunProgress

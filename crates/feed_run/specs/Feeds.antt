@@ -14,7 +14,6 @@ stops_at t k = record { number = k; done = t.done; main = t.main; spare = t.spar
 
 -- what a turn asks: a sound venue, room, lines that are ready at their positions, and something left on one of them
 pub record FeedReady (t : FeedProgress) (b main spare l : List ℕ) : Type 0 where
-  pub slice : length b ≡ size
   pub dense : Dense b
   pub sound : SoundAt (suc t.done) (venue_of b)
   pub within : t.written ≤ length l

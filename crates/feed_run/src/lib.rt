@@ -7,6 +7,7 @@ ghost use Rattle.engine.specs.Runs.{call_of};
 ghost use Rattle.feed_run.specs.Feeds.{stops_at, FeedReady, Feeds};
 ghost use Rattle.feed_run.specs.Requirements.{LinesFaultless};
 
+use places::Numbers;
 use rules::Returned;
 
 // Two lines of one feed --------------------------------------------------------------------------
@@ -37,7 +38,7 @@ fn stop_at(t: FeedProgress, number: u8) -> FeedProgress
 // One message more, or what stops it. The lines are not both at their ends.
 fn hand_out<'a>(
     t: FeedProgress,
-    numbers: &mut [u32],
+    numbers: &mut Numbers,
     main: &'a [u8],
     spare: &'a [u8],
     report: &mut [u8],

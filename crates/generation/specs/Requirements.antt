@@ -10,7 +10,6 @@ use Rattle.levels.specs.declared.LegSides.{LegSides}
 
 -- what the generation of the leg of c at side d of series s asks
 pub record PlanReady (b : List ℕ) (c : Complex) (s d : ℕ) : Type 0 where
-  pub whole : length b ≡ size
   pub right : Right b
   pub legs : LegsIn c
   pub series : s < 8
@@ -20,7 +19,6 @@ pub record PlanReady (b : List ℕ) (c : Complex) (s d : ℕ) : Type 0 where
 
 -- what the test of a leg that is yet to stand asks
 pub record StandReady (b : List ℕ) (x : LegSides) (c : Complex) (s d : ℕ) : Type 0 where
-  pub whole : length b ≡ size
   pub sides : SidesOf x c s d (venue_of b).regular
   pub legs : LegsIn c
   pub series : s < 8
@@ -30,7 +28,6 @@ pub record StandReady (b : List ℕ) (x : LegSides) (c : Complex) (s d : ℕ) : 
 
 -- the best prices of a side and of the side that it faces
 pub record BestPrices (b : List ℕ) (p q s d : ℕ) : Type 0 where
-  pub whole : length b ≡ size
   pub own : p ≡ best_regular (venue_of b) s d
   pub facing : q ≡ best_regular (venue_of b) s (opposite d)
   pub series : s < 8

@@ -8,15 +8,16 @@ ghost use Rattle.rules.specs.Prices.{displayed_price};
 ghost use Rattle.rules.specs.Generation.{as_price, generations_of, gives_way, placed, others_stand, under_ceiling, generate_leg, generate};
 ghost use Rattle.records.specs.Seen.{seen};
 ghost use Rattle.records.specs.Stage.{stage, ◌does◌};
-ghost use Rattle.places.specs.Layout.{size, venue_of, Figured, SameCounts};
+ghost use Rattle.places.specs.Layout.{size, venue_of, Figured, SameCounts, Right};
 ghost use Rattle.settling.specs.Parts.{other_taken};
 ghost use Rattle.generation.specs.Parts.{ranged_price, priced_leg, may_generate, price_may_stand, may_stand, planned_leg, made_by};
 ghost use Rattle.generation.specs.Requirements.{PlanReady, StandReady, BestPrices};
 ghost use Rattle.levels.specs.Requirements.{TakenFigured, TakenSeries};
-ghost use Rattle.places.specs.Requirements.{RightNumbers, SeriesReady, SideReady, IncrementReady, RightPlace};
+ghost use Rattle.places.specs.Requirements.{SideReady, IncrementReady, RightPlace};
 
 use arithmetic::limit_of;
 use levels::{LegSides, TakenLevels};
+use places::Numbers;
 use rules::{Cause, Complex, Legging};
 
 // Sign × z for a leg of side d.
@@ -41,7 +42,7 @@ fn as_price(z: i64) -> u64
 }
 
 // A price whose displayed price is from the increment to 100,000; else 0.
-fn ranged(numbers: &[u32], s: u8, d: u8, p: u64) -> u32
+fn ranged(numbers: &Numbers, s: u8, d: u8, p: u64) -> u32
     requires { IncrementReady numbers.now s }
     ensures { result ≡ ranged_price (venue_of numbers.now) s d p }
 {
@@ -61,7 +62,7 @@ fn ranged(numbers: &[u32], s: u8, d: u8, p: u64) -> u32
 }
 
 // The price of the leg of c at side d of series s: sign × (N - the other leg's sign × its clear price); 0 where there is none in range.
-pub fn leg_price(numbers: &[u32], taken: TakenLevels, c: Complex, s: u8, d: u8) -> u32
+pub fn leg_price(numbers: &Numbers, taken: TakenLevels, c: Complex, s: u8, d: u8) -> u32
     requires { TakenSeries numbers.now taken c s }
     ensures { result ≡ priced_leg (venue_of numbers.now) c s d }
 {
@@ -76,7 +77,7 @@ pub fn leg_price(numbers: &[u32], taken: TakenLevels, c: Complex, s: u8, d: u8) 
 }
 
 // c is one to one, both its series are open, and N is in band.
-fn may_generate(numbers: &[u32], taken: TakenLevels, c: Complex) -> bool
+fn may_generate(numbers: &Numbers, taken: TakenLevels, c: Complex) -> bool
     requires { TakenFigured numbers.now taken c }
     ensures { result ≡ may_generate (venue_of numbers.now) c }
 {
@@ -90,7 +91,7 @@ fn may_generate(numbers: &[u32], taken: TakenLevels, c: Complex) -> bool
 }
 
 // A price p at side d of series s is no worse than own, the best regular of its side, and reaches nothing opposite; facing is the best regular there.
-fn price_may_stand(numbers: &[u32], own: u32, facing: u32, s: u8, d: u8, p: u32) -> bool
+fn price_may_stand(numbers: &Numbers, own: u32, facing: u32, s: u8, d: u8, p: u32) -> bool
     requires { BestPrices numbers.now own facing s d }
     ensures { result ≡ price_may_stand (venue_of numbers.now) s d p }
 {
@@ -105,7 +106,7 @@ fn price_may_stand(numbers: &[u32], own: u32, facing: u32, s: u8, d: u8, p: u32)
 }
 
 // What stands at side d of series s gives way to c at price p: it is worse, or of class 1 at an equal price while c is of class 0.
-pub fn gives_way(numbers: &[u32], c: Complex, s: u8, d: u8, p: u32) -> bool
+pub fn gives_way(numbers: &Numbers, c: Complex, s: u8, d: u8, p: u32) -> bool
     requires { SideReady numbers.now s d }
     ensures { result ≡ gives_way (venue_of numbers.now) c d p (legging_at (venue_of numbers.now) s d) }
 {
@@ -127,7 +128,7 @@ pub fn gives_way(numbers: &[u32], c: Complex, s: u8, d: u8, p: u32) -> bool
 }
 
 // All that is asked of a legging order of c at price p but that the others stand, and the ceiling; c may generate.
-fn may_stand(numbers: &[u32], sides: LegSides, c: Complex, s: u8, d: u8, p: u32) -> bool
+fn may_stand(numbers: &Numbers, sides: LegSides, c: Complex, s: u8, d: u8, p: u32) -> bool
     requires { StandReady numbers.now sides c s d }
     ensures { result ≡ may_stand (venue_of numbers.now) c s d p }
 {
@@ -150,7 +151,7 @@ fn leg_quantity(taken: TakenLevels, c: Complex, s: u8) -> u32
 }
 
 // With l at place n every other legging order passes its test; the grid is of the regular orders alone. The venue is left as it was.
-fn others_stand_with(numbers: &mut [u32], n: usize, l: Legging) -> bool
+fn others_stand_with(numbers: &mut Numbers, n: usize, l: Legging) -> bool
     requires { RightPlace numbers.old n }
     ensures value { result ≡ others_stand (placed n l (venue_of numbers.old)) n 0 (placed n l (venue_of numbers.old)).legging }
     ensures kept { venue_of numbers.new ≡ venue_of numbers.old }
@@ -165,7 +166,7 @@ fn others_stand_with(numbers: &mut [u32], n: usize, l: Legging) -> bool
 }
 
 // The legging order of the leg of c at side d of series s, where it may stand; else a free place. c has open quantity, and may generate.
-fn plan_leg(numbers: &[u32], c: Complex, s: u8, d: u8) -> Legging
+fn plan_leg(numbers: &Numbers, c: Complex, s: u8, d: u8) -> Legging
     requires { PlanReady numbers.now c s d }
     ensures { result ≡ planned_leg (venue_of numbers.now) c s d }
 {
@@ -188,8 +189,8 @@ fn plan_leg(numbers: &[u32], c: Complex, s: u8, d: u8) -> Legging
 }
 
 // The ceiling allows one more in series s to the message of this number: the oldest of the last 20 is none, or it was 256 messages before or more.
-fn is_under_ceiling(numbers: &[u32], number: u32, s: u8) -> bool
-    requires { SeriesReady numbers.now s }
+fn is_under_ceiling(numbers: &Numbers, number: u32, s: u8) -> bool
+    requires { s < 8 }
     ensures { result ≡ under_ceiling number (generations_of (venue_of numbers.now) s) }
 {
     let oldest = places::oldest_at(numbers, s as usize);
@@ -201,7 +202,7 @@ fn is_under_ceiling(numbers: &[u32], number: u32, s: u8) -> bool
 
 // The holder of the place goes, and then l is put there and counted in its series.
 fn make_leg(
-    numbers: &mut [u32],
+    numbers: &mut Numbers,
     number: u32,
     id: u32,
     s: u8,
@@ -210,7 +211,7 @@ fn make_leg(
     out: &mut [u8],
     at: usize,
 ) -> usize
-    requires { (length numbers.old ≡ size) × (s < 8) × (d < 2) × (displayed_price (increment (venue_of numbers.old) s) d l.price ≤ 100000) × (Figured numbers.old) }
+    requires { (s < 8) × (d < 2) × (displayed_price (increment (venue_of numbers.old) s) d l.price ≤ 100000) × (Figured numbers.old) }
     ensures result_after { stage (venue_of numbers.new) out.new result ≡ seen out.old at does made_by number id s d l (venue_of numbers.old) }
     ensures counts { SameCounts numbers.old numbers.new }
 {
@@ -224,7 +225,7 @@ fn make_leg(
 
 // The legging order of a leg of c, made where every condition holds. Those that no leg changes are tested before.
 pub fn generate_leg(
-    numbers: &mut [u32],
+    numbers: &mut Numbers,
     number: u32,
     c: Complex,
     s: u8,
@@ -251,13 +252,13 @@ pub fn generate_leg(
 
 // Generation for the first leg and then the second of the order at place i. No legging order changes whether it may.
 pub fn generate_order(
-    numbers: &mut [u32],
+    numbers: &mut Numbers,
     number: u32,
     i: usize,
     out: &mut [u8],
     at: usize,
 ) -> usize
-    requires { RightNumbers numbers.old }
+    requires { Right numbers.old }
     ensures result_after { stage (venue_of numbers.new) out.new result ≡ seen out.old at does generate number i (venue_of numbers.old) }
     ensures counts { SameCounts numbers.old numbers.new }
 {

@@ -10,20 +10,17 @@ use Rattle.levels.specs.declared.LegSides.{LegSides}
 
 -- right numbers and the legs of c
 pub record LegsReady (b : List ℕ) (c : Complex) : Type 0 where
-  pub whole : length b ≡ size
   pub right : Right b
   pub legs : LegsIn c
 
 -- right numbers and the legs of c and of m
 pub record LegsPairReady (b : List ℕ) (c m : Complex) : Type 0 where
-  pub whole : length b ≡ size
   pub right : Right b
   pub legs : LegsIn c
   pub others : LegsIn m
 
 -- right numbers, the legs of c, a series and a side
 pub record LegSideReady (b : List ℕ) (c : Complex) (s d : ℕ) : Type 0 where
-  pub whole : length b ≡ size
   pub right : Right b
   pub legs : LegsIn c
   pub series : s < 8
@@ -31,20 +28,17 @@ pub record LegSideReady (b : List ℕ) (c : Complex) (s d : ℕ) : Type 0 where
 
 -- a whole slice and the levels that the legs of c take
 pub record TakenReady (b : List ℕ) (t : TakenLevels) (c : Complex) : Type 0 where
-  pub whole : length b ≡ size
   pub taken : TakenOf t c (venue_of b).regular
   pub legs : LegsIn c
 
 -- a whole slice with the figures in force, and the levels that the legs of c take
 pub record TakenFigured (b : List ℕ) (t : TakenLevels) (c : Complex) : Type 0 where
-  pub whole : length b ≡ size
   pub taken : TakenOf t c (venue_of b).regular
   pub legs : LegsIn c
   pub figures : Figured b
 
 -- a whole slice with the figures in force, the levels that the legs of c take, and a series
 pub record TakenSeries (b : List ℕ) (t : TakenLevels) (c : Complex) (s : ℕ) : Type 0 where
-  pub whole : length b ≡ size
   pub taken : TakenOf t c (venue_of b).regular
   pub legs : LegsIn c
   pub series : s < 8
@@ -52,7 +46,6 @@ pub record TakenSeries (b : List ℕ) (t : TakenLevels) (c : Complex) (s : ℕ) 
 
 -- what the test of the band asks: x is a net within the bounds of all nets
 pub record BandReady (b : List ℕ) (t : TakenLevels) (c : Complex) (x : ℤ) : Type 0 where
-  pub whole : length b ≡ size
   pub taken : TakenOf t c (venue_of b).regular
   pub legs : LegsIn c
   pub bound : nat_abs x ≤ 2190433320450
@@ -60,20 +53,17 @@ pub record BandReady (b : List ℕ) (t : TakenLevels) (c : Complex) (x : ℤ) : 
 
 -- a whole slice with the figures in force, and its levels
 pub record GridReady (b : List ℕ) (g : List (List Level)) : Type 0 where
-  pub whole : length b ≡ size
   pub grid : GridOf g (venue_of b).regular
   pub figures : Figured b
 
 -- a whole slice with the figures in force, its levels, and a legging place
 pub record GridPlaceReady (b : List ℕ) (g : List (List Level)) (n : ℕ) : Type 0 where
-  pub whole : length b ≡ size
   pub grid : GridOf g (venue_of b).regular
   pub place : n < 16
   pub figures : Figured b
 
 -- what the test of the leg of c at side d of series s asks
 pub record SidesReady (b : List ℕ) (x : LegSides) (c : Complex) (s d : ℕ) : Type 0 where
-  pub whole : length b ≡ size
   pub sides : SidesOf x c s d (venue_of b).regular
   pub legs : LegsIn c
   pub series : s < 8
@@ -81,27 +71,23 @@ pub record SidesReady (b : List ℕ) (x : LegSides) (c : Complex) (s d : ℕ) : 
 
 -- a whole slice and the level of a series and side
 pub record LevelReady (b : List ℕ) (l : Level) (s d : ℕ) : Type 0 where
-  pub whole : length b ≡ size
   pub level : l ≡ level_of s d (venue_of b).regular
   pub series : s < 8
   pub side : d < 2
 
 -- a whole slice and the best price of a series and side
 pub record BestReady (b : List ℕ) (p s d : ℕ) : Type 0 where
-  pub whole : length b ≡ size
   pub best : p ≡ best_regular (venue_of b) s d
   pub series : s < 8
   pub side : d < 2
 
 -- a whole slice, a series, and the best price of its side d
 pub record BestOfSeries (b : List ℕ) (p s d : ℕ) : Type 0 where
-  pub whole : length b ≡ size
   pub best : p ≡ best_regular (venue_of b) s d
   pub series : s < 8
 
 -- numbers without gaps, and a free place for c
 pub record DenseComplex (b : List ℕ) (c : Complex) : Type 0 where
-  pub whole : length b ≡ size
   pub dense : Dense b
   pub room : complexes_used b < 32
   pub legs : LegsIn c

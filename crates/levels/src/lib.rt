@@ -1,17 +1,17 @@
 // The levels of the regular orders, a price and a size for each side of a series: how they are kept and read; and which price is better, or reached.
 #![tactic(auto)]
 
-ghost use Rattle.std.specs.Prelude.{◌≡◌, suc, ◌≤◌, length};
+ghost use Rattle.std.specs.Prelude.{◌≡◌, suc, ◌≤◌, length, ◌<◌};
 ghost use Rattle.rules.specs.Prices.{better, reaches, best_regular};
 ghost use Rattle.rules.specs.Trading.{fill_regular, put_regular};
 ghost use Rattle.rules.specs.Generation.{reaches_any};
 ghost use Rattle.rules.specs.Standing.{show_again};
-ghost use Rattle.places.specs.Layout.{size, regulars_used, complexes_used, venue_of, level_of, Counts, SameCounts, Loaded};
+ghost use Rattle.places.specs.Layout.{size, regulars_used, complexes_used, venue_of, level_of, Counts, SameCounts, Loaded, Right, Loadable};
 ghost use Rattle.levels.specs.Grid.{no_level, with_order, level_by, GridOf, LevelsPut, TakenOf, SidesOf};
 ghost use Rattle.levels.specs.Requirements.{LegsReady, LegSideReady};
-ghost use Rattle.places.specs.Requirements.{RightNumbers, RegularReady, SideReady, RightSide, RightOrder, LoadReady};
+ghost use Rattle.places.specs.Requirements.{SideReady, RightSide, RightOrder};
 
-use places::Level;
+use places::{Level, Numbers};
 use rules::{Complex, Regular, Venue};
 
 // A price p of this side reaches a price q that is there.
@@ -52,7 +52,7 @@ fn with_order(l: Level, o: Regular) -> Level
 }
 
 // The level of one series and side, in one pass over its orders.
-fn level_of(numbers: &[u32], s: u8, d: u8) -> Level
+fn level_of(numbers: &Numbers, s: u8, d: u8) -> Level
     requires { SideReady numbers.now s d }
     ensures { result ≡ level_of s d (venue_of numbers.now).regular }
 {
@@ -71,8 +71,7 @@ fn level_of(numbers: &[u32], s: u8, d: u8) -> Level
 }
 
 // No side has a level.
-fn zero_levels(numbers: &mut [u32])
-    requires { length numbers.old ≡ size }
+fn zero_levels(numbers: &mut Numbers)
     ensures { LevelsPut (λ _. no_level) numbers.old numbers.new }
 {
     let none = Level { price: 0, size: 0 };
@@ -84,8 +83,7 @@ fn zero_levels(numbers: &mut [u32])
 }
 
 // The levels of all series and sides, in one pass over the places in use.
-fn make_levels(numbers: &mut [u32])
-    requires { length numbers.old ≡ size }
+fn make_levels(numbers: &mut Numbers)
     ensures { LevelsPut (level_by (venue_of numbers.old).regular) numbers.old numbers.new }
 {
     zero_levels(numbers);
@@ -100,8 +98,8 @@ fn make_levels(numbers: &mut [u32])
 }
 
 // A venue's numbers, with its levels.
-pub fn load(numbers: &mut [u32], v: Venue)
-    requires { LoadReady numbers.old v }
+pub fn load(numbers: &mut Numbers, v: Venue)
+    requires { Loadable v }
     ensures { Loaded v numbers.new }
 {
     venue_numbers::load(numbers, v);
@@ -109,7 +107,7 @@ pub fn load(numbers: &mut [u32], v: Venue)
 }
 
 // An order is given the place after those in use.
-pub fn add_order(numbers: &mut [u32], o: Regular)
+pub fn add_order(numbers: &mut Numbers, o: Regular)
     requires { RightOrder numbers.old o }
     ensures numbers_after { venue_of numbers.new ≡ put_regular (regulars_used numbers.old) o (venue_of numbers.old) }
     ensures counts { Counts (suc (regulars_used numbers.old)) (complexes_used numbers.old) numbers.old numbers.new }
@@ -121,8 +119,8 @@ pub fn add_order(numbers: &mut [u32], o: Regular)
 }
 
 // The order at place i is filled for k contracts, what it shows first.
-pub fn fill_order(numbers: &mut [u32], i: usize, k: u32)
-    requires { RegularReady numbers.old i }
+pub fn fill_order(numbers: &mut Numbers, i: usize, k: u32)
+    requires { i < regulars_used numbers.old }
     ensures numbers_after { venue_of numbers.new ≡ fill_regular i k (venue_of numbers.old) }
     ensures counts { SameCounts numbers.old numbers.new }
 {
@@ -148,8 +146,8 @@ pub fn fill_order(numbers: &mut [u32], i: usize, k: u32)
 }
 
 // Each order shows again. Without the show-again flag each already shows what it should.
-pub fn show_again(numbers: &mut [u32])
-    requires { RightNumbers numbers.old }
+pub fn show_again(numbers: &mut Numbers)
+    requires { Right numbers.old }
     ensures numbers_after { venue_of numbers.new ≡ show_again (venue_of numbers.old) }
     ensures counts { SameCounts numbers.old numbers.new }
 {
@@ -163,7 +161,7 @@ pub fn show_again(numbers: &mut [u32])
 // Prices of a side ----------------------------------------------------------------------------
 
 // The best regular price of a series and side.
-pub fn best_regular(numbers: &[u32], s: u8, d: u8) -> u32
+pub fn best_regular(numbers: &Numbers, s: u8, d: u8) -> u32
     requires { RightSide numbers.now s d }
     ensures { result ≡ best_regular (venue_of numbers.now) s d }
 {
@@ -172,8 +170,8 @@ pub fn best_regular(numbers: &[u32], s: u8, d: u8) -> u32
 }
 
 // The levels of all series and sides, in one pass.
-pub fn levels(numbers: &[u32]) -> [[Level; 2]; 8]
-    requires { RightNumbers numbers.now }
+pub fn levels(numbers: &Numbers) -> [[Level; 2]; 8]
+    requires { Right numbers.now }
     ensures { GridOf result (venue_of numbers.now).regular }
 {
     let none = Level { price: 0, size: 0 };
@@ -205,7 +203,7 @@ pub struct LegSides {
 }
 
 // The levels that the legs of c take.
-pub fn taken_at(numbers: &[u32], c: Complex) -> TakenLevels
+pub fn taken_at(numbers: &Numbers, c: Complex) -> TakenLevels
     requires { LegsReady numbers.now c }
     ensures { TakenOf result c (venue_of numbers.now).regular }
 {
@@ -221,7 +219,7 @@ pub fn taken_at(numbers: &[u32], c: Complex) -> TakenLevels
 }
 
 // What the test of the leg of c at side d of series s asks of the regular orders.
-pub fn sides_at(numbers: &[u32], c: Complex, s: u8, d: u8) -> LegSides
+pub fn sides_at(numbers: &Numbers, c: Complex, s: u8, d: u8) -> LegSides
     requires { LegSideReady numbers.now c s d }
     ensures { SidesOf result c s d (venue_of numbers.now).regular }
 {

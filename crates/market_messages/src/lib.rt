@@ -15,12 +15,13 @@ ghost use Rattle.answers.specs.Requirements.{SoundNumbers};
 ghost use Rattle.places.specs.Requirements.{RightSeries, RightFigure};
 
 use answers::Stepped;
+use places::Numbers;
 use rules::{Edition, Listed};
 
 // What an accepted message does -----------------------------------------------------------------
 
 // A series' away prices anew; then settling.
-fn set_away(numbers: &mut [u32], s: u8, bid: u32, offer: u32, out: &mut [u8], at: usize) -> usize
+fn set_away(numbers: &mut Numbers, s: u8, bid: u32, offer: u32, out: &mut [u8], at: usize) -> usize
     requires { RightSeries numbers.old s }
     ensures result_after { stage (venue_of numbers.new) out.new result ≡ seen out.old at does settle (set_away s bid offer (venue_of numbers.old)) }
     ensures counts { SameCounts numbers.old numbers.new }
@@ -32,7 +33,7 @@ fn set_away(numbers: &mut [u32], s: u8, bid: u32, offer: u32, out: &mut [u8], at
 }
 
 // A series' status anew; then settling.
-fn set_status(numbers: &mut [u32], s: u8, status: u8, out: &mut [u8], at: usize) -> usize
+fn set_status(numbers: &mut Numbers, s: u8, status: u8, out: &mut [u8], at: usize) -> usize
     requires { RightSeries numbers.old s }
     ensures result_after { stage (venue_of numbers.new) out.new result ≡ seen out.old at does settle (set_status s status (venue_of numbers.old)) }
     ensures counts { SameCounts numbers.old numbers.new }
@@ -49,7 +50,7 @@ fn set_status(numbers: &mut [u32], s: u8, status: u8, out: &mut [u8], at: usize)
 
 // A figure's edition, entered by the message of this number at the first free place; then settling.
 fn set_figure(
-    numbers: &mut [u32],
+    numbers: &mut Numbers,
     number: u32,
     f: u8,
     x: u8,
@@ -76,7 +77,7 @@ fn set_figure(
 
 // 4: away prices.
 pub fn away_step(
-    numbers: &mut [u32],
+    numbers: &mut Numbers,
     number: u32,
     s: u8,
     bid: u32,
@@ -95,7 +96,7 @@ pub fn away_step(
 }
 
 // 5: a status.
-pub fn status_step(numbers: &mut [u32], number: u32, s: u8, status: u8, out: &mut [u8]) -> Stepped
+pub fn status_step(numbers: &mut Numbers, number: u32, s: u8, status: u8, out: &mut [u8]) -> Stepped
     requires { SoundNumbers numbers.old }
     ensures { Steps (ranged_by (venue_of numbers.old) number (is_series s && is_status status) false (Status s status)) out.old result numbers.new out.new }
 {
@@ -108,7 +109,7 @@ pub fn status_step(numbers: &mut [u32], number: u32, s: u8, status: u8, out: &mu
 }
 
 // 6: a sweep.
-pub fn sweep_step(numbers: &mut [u32], number: u32, out: &mut [u8]) -> Stepped
+pub fn sweep_step(numbers: &mut Numbers, number: u32, out: &mut [u8]) -> Stepped
     requires { SoundNumbers numbers.old }
     ensures { Steps (answered_by (venue_of numbers.old) number Sweep) out.old result numbers.new out.new }
 {
@@ -119,7 +120,7 @@ pub fn sweep_step(numbers: &mut [u32], number: u32, out: &mut [u8]) -> Stepped
 
 // 7: a series' increment.
 pub fn increment_step(
-    numbers: &mut [u32],
+    numbers: &mut Numbers,
     number: u32,
     s: u8,
     x: u8,
@@ -144,7 +145,7 @@ pub fn increment_step(
 
 // 8: the percentage.
 pub fn percent_step(
-    numbers: &mut [u32],
+    numbers: &mut Numbers,
     number: u32,
     x: u8,
     edition: u32,
@@ -166,7 +167,7 @@ pub fn percent_step(
 }
 
 // 11: a limited sweep.
-pub fn limited_step(numbers: &mut [u32], number: u32, n: u8, out: &mut [u8]) -> Stepped
+pub fn limited_step(numbers: &mut Numbers, number: u32, n: u8, out: &mut [u8]) -> Stepped
     requires { SoundNumbers numbers.old }
     ensures { Steps (ranged_by (venue_of numbers.old) number (within 1 32 n) false (LimitedSweep n)) out.old result numbers.new out.new }
 {

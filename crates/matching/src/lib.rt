@@ -2,7 +2,7 @@
 // Each function says in one equation the venue that it leaves and all that it writes: those of its definition.
 #![tactic(auto)]
 
-ghost use Rattle.std.specs.Prelude.{◌≡◌, suc};
+ghost use Rattle.std.specs.Prelude.{◌≡◌, suc, ◌<◌};
 ghost use Rattle.rules.specs.Words.{opposite, legging_at};
 ghost use Rattle.rules.specs.Effects.{repeat};
 ghost use Rattle.rules.specs.Prices.{own_price};
@@ -11,10 +11,11 @@ ghost use Rattle.records.specs.Seen.{seen};
 ghost use Rattle.records.specs.Stage.{stage, ◌does◌};
 ghost use Rattle.places.specs.Layout.{regulars_used, complexes_used, venue_of, Counts, SameCounts};
 ghost use Rattle.matching.specs.Turns.{turn_of, InUse};
-ghost use Rattle.places.specs.Requirements.{SeriesReady, RightRegular, DenseOrder};
+ghost use Rattle.places.specs.Requirements.{RightRegular, DenseOrder};
 
 use arithmetic::lesser;
 use book::Pick;
+use places::Numbers;
 use rules::{Legging, Regular};
 
 // What the order at a place does next.
@@ -50,8 +51,8 @@ fn legging_first(o: Regular, l: Legging, p: u32) -> bool
 }
 
 // The legging order that one of a side in a series faces.
-fn facing(numbers: &[u32], series: u8, side: u8) -> Legging
-    requires { SeriesReady numbers.now series }
+fn facing(numbers: &Numbers, series: u8, side: u8) -> Legging
+    requires { series < 8 }
     ensures { result ≡ legging_at (venue_of numbers.now) series (opposite side) }
 {
     let n = arithmetic::place_of(series, arithmetic::opposite_of(side));
@@ -70,7 +71,7 @@ fn at_once(m: Regular) -> u32
 }
 
 // What the order at place i does next.
-fn decide(numbers: &[u32], i: usize) -> Plan
+fn decide(numbers: &Numbers, i: usize) -> Plan
     requires { RightRegular numbers.now i }
     ensures { (turn_of i (venue_of numbers.now) result ≡ meet_turn i (venue_of numbers.now)) × InUse (regulars_used numbers.now) result }
 {
@@ -97,7 +98,7 @@ fn decide(numbers: &[u32], i: usize) -> Plan
 }
 
 // The order at place i meets the other side, in at most `quantity` turns.
-pub fn meet_all(numbers: &mut [u32], i: usize, quantity: u32, out: &mut [u8], at: usize) -> usize
+pub fn meet_all(numbers: &mut Numbers, i: usize, quantity: u32, out: &mut [u8], at: usize) -> usize
     requires { RightRegular numbers.old i }
     ensures result_after { stage (venue_of numbers.new) out.new result ≡ seen out.old at does repeat quantity (meet_turn i) (venue_of numbers.old) }
     ensures counts { SameCounts numbers.old numbers.new }
@@ -125,7 +126,7 @@ pub fn meet_all(numbers: &mut [u32], i: usize, quantity: u32, out: &mut [u8], at
 }
 
 // The order is given a place and meets the other side there. Every place in use is held, so the place after them is the first free one.
-pub fn enter_regular(numbers: &mut [u32], o: Regular, out: &mut [u8], at: usize) -> usize
+pub fn enter_regular(numbers: &mut Numbers, o: Regular, out: &mut [u8], at: usize) -> usize
     requires { DenseOrder numbers.old o }
     ensures result_after { stage (venue_of numbers.new) out.new result ≡ seen out.old at does enter_regular o (venue_of numbers.old) }
     ensures counts { Counts (suc (regulars_used numbers.old)) (complexes_used numbers.old) numbers.old numbers.new }

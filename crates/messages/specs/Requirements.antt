@@ -7,7 +7,6 @@ use Rattle.demands.specs.Soundness.{SoundVenue}
 
 -- numbers of a sound venue, and a message of a kind from 1 to 3
 pub record FirstKind (b m : List ℕ) (k : ℕ) : Type 0 where
-  pub whole : length b ≡ size
   pub dense : Dense b
   pub sound : SoundVenue (venue_of b)
   pub framed : Framed m
@@ -16,7 +15,6 @@ pub record FirstKind (b m : List ℕ) (k : ℕ) : Type 0 where
 
 -- numbers of a sound venue, and a message of a kind from 4 to 6
 pub record MarketKind (b m : List ℕ) (k : ℕ) : Type 0 where
-  pub whole : length b ≡ size
   pub dense : Dense b
   pub sound : SoundVenue (venue_of b)
   pub framed : Framed m
@@ -26,7 +24,6 @@ pub record MarketKind (b m : List ℕ) (k : ℕ) : Type 0 where
 
 -- numbers of a sound venue, and a message of a kind from 7 on
 pub record LaterKind (b m : List ℕ) (k : ℕ) : Type 0 where
-  pub whole : length b ≡ size
   pub dense : Dense b
   pub sound : SoundVenue (venue_of b)
   pub framed : Framed m

@@ -11,6 +11,7 @@ ghost use Rattle.answers.specs.Requirements.{SoundNumbers};
 ghost use Rattle.messages.specs.Requirements.{FirstKind, MarketKind, LaterKind};
 
 use answers::Stepped;
+use places::Numbers;
 
 // One message ---------------------------------------------------------------------------------
 
@@ -43,7 +44,7 @@ fn frame_refusal(message: &[u8]) -> u8
 
 // Kinds 1 to 3.
 fn first_kinds(
-    numbers: &mut [u32],
+    numbers: &mut Numbers,
     number: u32,
     kind: u16,
     message: &[u8],
@@ -66,7 +67,7 @@ fn first_kinds(
 
 // Kinds 4 to 6.
 fn market_kinds(
-    numbers: &mut [u32],
+    numbers: &mut Numbers,
     number: u32,
     kind: u16,
     message: &[u8],
@@ -91,7 +92,7 @@ fn market_kinds(
 
 // Kinds 7 to 11.
 fn later_kinds(
-    numbers: &mut [u32],
+    numbers: &mut Numbers,
     number: u32,
     kind: u16,
     message: &[u8],
@@ -128,7 +129,7 @@ fn later_kinds(
 }
 
 // The message at the front of `message`, of this number, taken apart once by its kind: its answer and its records from the start of `out`.
-pub fn step(numbers: &mut [u32], number: u32, message: &[u8], out: &mut [u8]) -> Stepped
+pub fn step(numbers: &mut Numbers, number: u32, message: &[u8], out: &mut [u8]) -> Stepped
     requires { SoundNumbers numbers.old }
     ensures { Steps (step.step (venue_of numbers.old) number message.now) out.old result numbers.new out.new }
 {
@@ -148,35 +149,22 @@ pub fn step(numbers: &mut [u32], number: u32, message: &[u8], out: &mut [u8]) ->
 
 // A message whose records may not fit ------------------------------------------------------------
 
-// All numbers of `from` in the place of those of `to`.
-fn copy(from: &[u32], to: &mut [u32])
-    requires { length to.old ≡ length from.now }
-    ensures { to.new ≡ from.now }
-{
-    let mut i = 0;
-    while i < from.len() {
-        to[i] = from[i];
-        i += 1;
-    }
-}
-
 // A step whose records may not fit: where they do not, the numbers are as they were.
-fn step_or_leave(numbers: &mut [u32], number: u32, message: &[u8], out: &mut [u8]) -> Stepped
+fn step_or_leave(numbers: &mut Numbers, number: u32, message: &[u8], out: &mut [u8]) -> Stepped
     requires { SoundNumbers numbers.old }
     ensures { Tries (step.step (venue_of numbers.old) number message.now) numbers.old out.old result numbers.new out.new }
 {
-    let mut kept = [0u32; places::SIZE];
-    copy(numbers, &mut kept);
+    let kept = *numbers;
     let r = step(numbers, number, message, out);
     if r.written <= out.len() {
         return r;
     }
-    copy(&kept, numbers);
+    *numbers = kept;
     r
 }
 
 // The same; with room for the most that a message upon a sound venue writes, the numbers need not be kept.
-pub fn try_step(numbers: &mut [u32], number: u32, message: &[u8], out: &mut [u8]) -> Stepped
+pub fn try_step(numbers: &mut Numbers, number: u32, message: &[u8], out: &mut [u8]) -> Stepped
     requires { SoundNumbers numbers.old }
     ensures { Tries (step.step (venue_of numbers.old) number message.now) numbers.old out.old result numbers.new out.new }
 {

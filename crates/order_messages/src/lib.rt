@@ -16,12 +16,13 @@ ghost use Rattle.levels.specs.Requirements.{DenseComplex};
 ghost use Rattle.places.specs.Requirements.{InRangeOrder};
 
 use answers::Stepped;
+use places::Numbers;
 use rules::{Complex, Regular};
 
 // What an accepted order does -------------------------------------------------------------------
 
 // An order arrives, and its id is the last accepted.
-fn enter_order(numbers: &mut [u32], o: Regular, out: &mut [u8], at: usize) -> usize
+fn enter_order(numbers: &mut Numbers, o: Regular, out: &mut [u8], at: usize) -> usize
     requires { InRangeOrder numbers.old o }
     ensures result_after { stage (venue_of numbers.new) out.new result ≡ seen out.old at does order o (with_last (venue_of numbers.old) o.id) }
     ensures right { Right numbers.new }
@@ -31,7 +32,7 @@ fn enter_order(numbers: &mut [u32], o: Regular, out: &mut [u8], at: usize) -> us
 }
 
 // A complex order arrives by the message of this number, and its id is the last accepted.
-fn enter_complex(numbers: &mut [u32], number: u32, c: Complex, out: &mut [u8], at: usize) -> usize
+fn enter_complex(numbers: &mut Numbers, number: u32, c: Complex, out: &mut [u8], at: usize) -> usize
     requires { DenseComplex numbers.old c }
     ensures result_after { stage (venue_of numbers.new) out.new result ≡ seen out.old at does complex number c (with_last (venue_of numbers.old) c.id) }
     ensures right { Right numbers.new }
@@ -43,7 +44,7 @@ fn enter_complex(numbers: &mut [u32], number: u32, c: Complex, out: &mut [u8], a
 // By kind ---------------------------------------------------------------------------------------
 
 // 1 and 9: an order.
-pub fn order_step(numbers: &mut [u32], number: u32, o: Regular, out: &mut [u8]) -> Stepped
+pub fn order_step(numbers: &mut Numbers, number: u32, o: Regular, out: &mut [u8]) -> Stepped
     requires { SoundOrder numbers.old o }
     ensures { Steps (ranged_by (venue_of numbers.old) number (regular_in_range o) false (Order o)) out.old result numbers.new out.new }
 {
@@ -60,7 +61,7 @@ pub fn order_step(numbers: &mut [u32], number: u32, o: Regular, out: &mut [u8]) 
 }
 
 // A complex order whose fields are in range.
-fn complex_step(numbers: &mut [u32], number: u32, c: Complex, out: &mut [u8]) -> Stepped
+fn complex_step(numbers: &mut Numbers, number: u32, c: Complex, out: &mut [u8]) -> Stepped
     requires { SoundComplex numbers.old c }
     ensures { Steps (answered_by (venue_of numbers.old) number (TwoLeg c)) out.old result numbers.new out.new }
 {
@@ -74,7 +75,7 @@ fn complex_step(numbers: &mut [u32], number: u32, c: Complex, out: &mut [u8]) ->
 }
 
 // 2: a complex order one to one.
-pub fn pair_step(numbers: &mut [u32], number: u32, c: Complex, out: &mut [u8]) -> Stepped
+pub fn pair_step(numbers: &mut Numbers, number: u32, c: Complex, out: &mut [u8]) -> Stepped
     requires { SoundPair numbers.old c }
     ensures { Steps (ranged_by (venue_of numbers.old) number (two_leg_in_range 200000 c) false (TwoLeg c)) out.old result numbers.new out.new }
 {
@@ -85,7 +86,7 @@ pub fn pair_step(numbers: &mut [u32], number: u32, c: Complex, out: &mut [u8]) -
 }
 
 // 10: a complex order with its ratios, which differ.
-pub fn ratio_step(numbers: &mut [u32], number: u32, c: Complex, out: &mut [u8]) -> Stepped
+pub fn ratio_step(numbers: &mut Numbers, number: u32, c: Complex, out: &mut [u8]) -> Stepped
     requires { SoundNumbers numbers.old }
     ensures { Steps (ranged_by (venue_of numbers.old) number (two_leg_in_range 600000 c) (eqb c.ratio1 c.ratio2) (TwoLeg c)) out.old result numbers.new out.new }
 {
@@ -99,7 +100,7 @@ pub fn ratio_step(numbers: &mut [u32], number: u32, c: Complex, out: &mut [u8]) 
 }
 
 // 3: a cancel.
-pub fn cancel_step(numbers: &mut [u32], number: u32, id: u32, out: &mut [u8]) -> Stepped
+pub fn cancel_step(numbers: &mut Numbers, number: u32, id: u32, out: &mut [u8]) -> Stepped
     requires { SoundNumbers numbers.old }
     ensures { Steps (ranged_by (venue_of numbers.old) number (is_id id) false (Cancel id)) out.old result numbers.new out.new }
 {

@@ -2,23 +2,24 @@
 // Each function says in one equation the venue that it leaves and all that it writes: those of its definition.
 #![tactic(auto)]
 
-ghost use Rattle.std.specs.Prelude.{◌≡◌, suc};
+ghost use Rattle.std.specs.Prelude.{◌≡◌, suc, true};
 ghost use Rattle.rules.specs.Order as order;
-ghost use Rattle.rules.specs.Complex.{complex_place, cancel_complex};
+ghost use Rattle.rules.specs.Complex.{complex_place, cancel_complex, rests_complex};
 ghost use Rattle.rules.specs.Complex as complex;
 ghost use Rattle.records.specs.Seen.{seen};
 ghost use Rattle.records.specs.Stage.{stage, ◌does◌};
 ghost use Rattle.places.specs.Layout.{regulars_used, complexes_used, venue_of, Counts, SameCounts};
 ghost use Rattle.orders.specs.Effects.{withdrawn};
 ghost use Rattle.levels.specs.Requirements.{DenseComplex};
-ghost use Rattle.places.specs.Requirements.{DenseOrder, DenseRests, ComplexRests};
+ghost use Rattle.places.specs.Requirements.{DenseOrder, DenseRests};
 
 use book::Found;
+use places::Numbers;
 use rules::{Complex, Regular};
 
 // A complex order arrives: it is given a place and worked there; then settling, and generation for its legs.
 pub fn complex_order(
-    numbers: &mut [u32],
+    numbers: &mut Numbers,
     number: u32,
     c: Complex,
     out: &mut [u8],
@@ -36,8 +37,8 @@ pub fn complex_order(
 }
 
 // The resting complex order with an id is cancelled.
-fn withdraw_complex(numbers: &mut [u32], id: u32, out: &mut [u8], at: usize) -> usize
-    requires { ComplexRests numbers.old id }
+fn withdraw_complex(numbers: &mut Numbers, id: u32, out: &mut [u8], at: usize) -> usize
+    requires { rests_complex (venue_of numbers.old) id ≡ true }
     ensures result_after { stage (venue_of numbers.new) out.new result ≡ seen out.old at does cancel_complex (complex_place (venue_of numbers.old) id) (venue_of numbers.old) }
     ensures counts { SameCounts numbers.old numbers.new }
 {
@@ -49,7 +50,7 @@ fn withdraw_complex(numbers: &mut [u32], id: u32, out: &mut [u8], at: usize) -> 
 }
 
 // The resting order with an id is cancelled.
-fn withdraw(numbers: &mut [u32], id: u32, out: &mut [u8], at: usize) -> usize
+fn withdraw(numbers: &mut Numbers, id: u32, out: &mut [u8], at: usize) -> usize
     requires { DenseRests numbers.old id }
     ensures result_after { stage (venue_of numbers.new) out.new result ≡ seen out.old at does withdrawn id (venue_of numbers.old) }
     ensures counts { SameCounts numbers.old numbers.new }
@@ -62,7 +63,7 @@ fn withdraw(numbers: &mut [u32], id: u32, out: &mut [u8], at: usize) -> usize
 }
 
 // The resting order with an id is cancelled; then settling.
-pub fn cancel(numbers: &mut [u32], id: u32, out: &mut [u8], at: usize) -> usize
+pub fn cancel(numbers: &mut Numbers, id: u32, out: &mut [u8], at: usize) -> usize
     requires { DenseRests numbers.old id }
     ensures result_after { stage (venue_of numbers.new) out.new result ≡ seen out.old at does complex.cancel id (venue_of numbers.old) }
     ensures counts { SameCounts numbers.old numbers.new }
@@ -72,7 +73,7 @@ pub fn cancel(numbers: &mut [u32], id: u32, out: &mut [u8], at: usize) -> usize
 }
 
 // An order arrives and meets the other side; then settling.
-pub fn order(numbers: &mut [u32], o: Regular, out: &mut [u8], at: usize) -> usize
+pub fn order(numbers: &mut Numbers, o: Regular, out: &mut [u8], at: usize) -> usize
     requires { DenseOrder numbers.old o }
     ensures result_after { stage (venue_of numbers.new) out.new result ≡ seen out.old at does order.order o (venue_of numbers.old) }
     ensures counts { Counts (suc (regulars_used numbers.old)) (complexes_used numbers.old) numbers.old numbers.new }

@@ -8,20 +8,20 @@ ghost use Rattle.rules.specs.Trading.{fill_regular, fill_complex, put_regular, p
 ghost use Rattle.rules.specs.Generation.{placed, counted};
 ghost use Rattle.rules.specs.Places.{holds_regular, holds_complex};
 ghost use Rattle.rules.specs.Standing.{show_again};
-ghost use Rattle.places.specs.Layout.{size, regulars_used, complexes_used, regular_in, complex_in, venue_of, regular_put, limit_number, complex_row, edition_row, ComplexBounded, bit_of};
+ghost use Rattle.places.specs.Layout.{size, regulars_used, complexes_used, regular_in, complex_in, venue_of, regular_put, limit_number, complex_row, edition_row, ComplexBounded, bit_of, Right, Marked};
 ghost use Rattle.places.specs.Layout.{FiguresBase, FigureSet, FiguresCounted};
 ghost use Rattle.places.specs.Layout.{Beside, SameBeside, LevelPut, Counts, SameCounts};
 ghost use Rattle.places.specs.Layout.{Filled, RegularsClosed, ComplexesClosed, GapsClosed};
 ghost use Rattle.places.specs.Offsets.{complex_id_at, edition_number_at};
-ghost use Rattle.places.specs.Requirements.{RightNumbers, MarkedNumbers, SeriesReady, PlaceReady, RegularReady, ComplexReady, CountedRegulars};
+ghost use Rattle.places.specs.Requirements.{CountedRegulars};
 ghost use Rattle.places.specs.Requirements.{CountedComplexes, RegularRoom, ComplexRoom, EditionRoom};
 
-use places::Level;
+use places::{Level, Numbers};
 use rules::{Complex, Edition, Generations, Legging, Listed, Regular};
 
 // A level is kept for a series and side.
-pub fn put_level(numbers: &mut [u32], n: usize, l: Level)
-    requires { PlaceReady numbers.old n 16 }
+pub fn put_level(numbers: &mut Numbers, n: usize, l: Level)
+    requires { n < 16 }
     ensures { LevelPut n l numbers.old numbers.new }
 {
     numbers[3 * n + places::LEVEL_PRICE_AT] = l.price;
@@ -30,7 +30,7 @@ pub fn put_level(numbers: &mut [u32], n: usize, l: Level)
 }
 
 // The number at a place becomes i, unless it is less.
-fn lower(numbers: &mut [u32], at: usize, i: usize)
+fn lower(numbers: &mut Numbers, at: usize, i: usize)
     requires { (at < length numbers.old) × (i < 4294967296) }
     ensures { numbers.new ≡ set numbers.old at (min (get_or numbers.old at 0) i) }
 {
@@ -42,8 +42,8 @@ fn lower(numbers: &mut [u32], at: usize, i: usize)
 }
 
 // The order at place i is filled for k contracts. The levels stay as they are. What is left of an order with reserve has to show again.
-pub fn fill_regular(numbers: &mut [u32], i: usize, k: u32)
-    requires { RegularReady numbers.old i }
+pub fn fill_regular(numbers: &mut Numbers, i: usize, k: u32)
+    requires { i < regulars_used numbers.old }
     ensures numbers_after { venue_of numbers.new ≡ fill_regular i k (venue_of numbers.old) }
     ensures beside { SameBeside numbers.old numbers.new }
 {
@@ -60,8 +60,8 @@ pub fn fill_regular(numbers: &mut [u32], i: usize, k: u32)
 }
 
 // The complex order at a place is filled by `k` units.
-pub fn fill_complex(numbers: &mut [u32], i: usize, k: u32)
-    requires { ComplexReady numbers.old i }
+pub fn fill_complex(numbers: &mut Numbers, i: usize, k: u32)
+    requires { i < complexes_used numbers.old }
     ensures numbers_after { venue_of numbers.new ≡ fill_complex i k (venue_of numbers.old) }
     ensures counts { SameCounts numbers.old numbers.new }
 {
@@ -81,8 +81,8 @@ fn place_number(series: u8, side: u8) -> u32
 }
 
 // An order's numbers at place i.
-pub fn write_regular(numbers: &mut [u32], i: usize, o: Regular)
-    requires { PlaceReady numbers.old i 128 }
+pub fn write_regular(numbers: &mut Numbers, i: usize, o: Regular)
+    requires { i < 128 }
     ensures { numbers.new ≡ regular_put numbers.old i o }
 {
     let place = place_number(o.series, o.side);
@@ -95,7 +95,7 @@ pub fn write_regular(numbers: &mut [u32], i: usize, o: Regular)
 }
 
 // An order is given the place after those in use. The levels stay as they are.
-pub fn add_regular(numbers: &mut [u32], o: Regular)
+pub fn add_regular(numbers: &mut Numbers, o: Regular)
     requires { RegularRoom numbers.old o }
     ensures numbers_after { venue_of numbers.new ≡ put_regular (regulars_used numbers.old) o (venue_of numbers.old) }
     ensures beside { Beside (suc (regulars_used numbers.old)) (complexes_used numbers.old) numbers.old numbers.new }
@@ -107,8 +107,7 @@ pub fn add_regular(numbers: &mut [u32], o: Regular)
 }
 
 // Each order shows again: all but its shown quantity is reserve. The levels stay as they are.
-pub fn show_again(numbers: &mut [u32])
-    requires { length numbers.old ≡ size }
+pub fn show_again(numbers: &mut Numbers)
     ensures numbers_after { venue_of numbers.new ≡ show_again (venue_of numbers.old) }
     ensures beside { SameBeside numbers.old numbers.new }
 {
@@ -130,8 +129,8 @@ fn limit_number(x: i32) -> u32
 }
 
 // A complex order's numbers at place i.
-pub fn write_complex(numbers: &mut [u32], i: usize, c: Complex)
-    requires { PlaceReady numbers.old i 32 }
+pub fn write_complex(numbers: &mut Numbers, i: usize, c: Complex)
+    requires { i < 32 }
     ensures { (numbers.new ≡ sets numbers.old (6 * i + complex_id_at) (complex_row c)) × ComplexBounded c }
 {
     let one = place_number(c.series1, c.side1);
@@ -146,7 +145,7 @@ pub fn write_complex(numbers: &mut [u32], i: usize, c: Complex)
 }
 
 // A complex order is given the place after those in use.
-pub fn add_complex(numbers: &mut [u32], c: Complex)
+pub fn add_complex(numbers: &mut Numbers, c: Complex)
     requires { ComplexRoom numbers.old c }
     ensures numbers_after { venue_of numbers.new ≡ put_complex (complexes_used numbers.old) c (venue_of numbers.old) }
     ensures counts { Counts (regulars_used numbers.old) (suc (complexes_used numbers.old)) numbers.old numbers.new }
@@ -169,8 +168,8 @@ fn weight(n: usize, l: Legging) -> u32
 }
 
 // A legging order at a place.
-pub fn put_legging(numbers: &mut [u32], n: usize, l: Legging)
-    requires { PlaceReady numbers.old n 16 }
+pub fn put_legging(numbers: &mut Numbers, n: usize, l: Legging)
+    requires { n < 16 }
     ensures numbers_after { venue_of numbers.new ≡ placed n l (venue_of numbers.old) }
     ensures counts { SameCounts numbers.old numbers.new }
 {
@@ -183,8 +182,8 @@ pub fn put_legging(numbers: &mut [u32], n: usize, l: Legging)
 }
 
 // A series' status and away prices anew.
-pub fn put_listed(numbers: &mut [u32], s: usize, x: Listed)
-    requires { SeriesReady numbers.old s }
+pub fn put_listed(numbers: &mut Numbers, s: usize, x: Listed)
+    requires { s < 8 }
     ensures numbers_after { venue_of numbers.new ≡ with_series (venue_of numbers.old) (set (venue_of numbers.old).series s x) }
     ensures counts { SameCounts numbers.old numbers.new }
 {
@@ -194,8 +193,8 @@ pub fn put_listed(numbers: &mut [u32], s: usize, x: Listed)
 }
 
 // An edition's numbers at place i. The figures stay as they are.
-pub fn write_edition(numbers: &mut [u32], i: usize, e: Edition)
-    requires { PlaceReady numbers.old i 32 }
+pub fn write_edition(numbers: &mut Numbers, i: usize, e: Edition)
+    requires { i < 32 }
     ensures { (numbers.new ≡ sets numbers.old (4 * i + edition_number_at) (edition_row e)) × (e.figure < 256) × (e.value < 256) }
 {
     numbers[4 * i + places::EDITION_NUMBER_AT] = e.edition;
@@ -206,8 +205,7 @@ pub fn write_edition(numbers: &mut [u32], i: usize, e: Edition)
 
 // The figures of edition 0. This function is compiled by itself: an archive has it once, and keeps no constants for it.
 #[inline(never)]
-pub fn base_figures(numbers: &mut [u32])
-    requires { length numbers.old ≡ size }
+pub fn base_figures(numbers: &mut Numbers)
     ensures { FiguresBase numbers.old numbers.new }
 {
     let mut f: u8 = 0;
@@ -219,8 +217,7 @@ pub fn base_figures(numbers: &mut [u32])
 }
 
 // An edition's value becomes that of its figure; a free place has none.
-fn set_figure(numbers: &mut [u32], e: Edition)
-    requires { length numbers.old ≡ size }
+fn set_figure(numbers: &mut Numbers, e: Edition)
     ensures { FigureSet e numbers.old numbers.new }
 {
     if e.edition == 0 {
@@ -234,8 +231,7 @@ fn set_figure(numbers: &mut [u32], e: Edition)
 }
 
 // The figures in force: those of edition 0, and then those of each edition in turn.
-pub fn count_figures(numbers: &mut [u32])
-    requires { length numbers.old ≡ size }
+pub fn count_figures(numbers: &mut Numbers)
     ensures { FiguresCounted numbers.old numbers.new }
 {
     base_figures(numbers);
@@ -248,7 +244,7 @@ pub fn count_figures(numbers: &mut [u32])
 }
 
 // An edition at a free place; the figures are counted anew.
-pub fn put_edition(numbers: &mut [u32], i: usize, e: Edition)
+pub fn put_edition(numbers: &mut Numbers, i: usize, e: Edition)
     requires { EditionRoom numbers.old i e }
     ensures numbers_after { venue_of numbers.new ≡ with_editions (venue_of numbers.old) (set (venue_of numbers.old).editions i e) }
     ensures counts { SameCounts numbers.old numbers.new }
@@ -258,8 +254,7 @@ pub fn put_edition(numbers: &mut [u32], i: usize, e: Edition)
 }
 
 // The last id accepted.
-pub fn put_last(numbers: &mut [u32], id: u32)
-    requires { length numbers.old ≡ size }
+pub fn put_last(numbers: &mut Numbers, id: u32)
     ensures numbers_after { venue_of numbers.new ≡ with_last (venue_of numbers.old) id }
     ensures counts { SameCounts numbers.old numbers.new }
 {
@@ -267,8 +262,8 @@ pub fn put_last(numbers: &mut [u32], id: u32)
 }
 
 // A series' generations anew.
-pub fn put_generations(numbers: &mut [u32], s: usize, g: Generations)
-    requires { SeriesReady numbers.old s }
+pub fn put_generations(numbers: &mut Numbers, s: usize, g: Generations)
+    requires { s < 8 }
     ensures numbers_after { venue_of numbers.new ≡ with_generations (venue_of numbers.old) (set (venue_of numbers.old).generations s g) }
     ensures counts { SameCounts numbers.old numbers.new }
 {
@@ -281,8 +276,8 @@ pub fn put_generations(numbers: &mut [u32], s: usize, g: Generations)
 }
 
 // One generation more of a series, by the message of this number; the oldest is forgotten.
-pub fn count_generation(numbers: &mut [u32], s: usize, number: u32)
-    requires { SeriesReady numbers.old s }
+pub fn count_generation(numbers: &mut Numbers, s: usize, number: u32)
+    requires { s < 8 }
     ensures numbers_after { venue_of numbers.new ≡ counted number s (venue_of numbers.old) }
     ensures counts { SameCounts numbers.old numbers.new }
 {
@@ -297,8 +292,7 @@ pub fn count_generation(numbers: &mut [u32], s: usize, number: u32)
 }
 
 // The last id that a limited sweep looked at.
-pub fn put_reached(numbers: &mut [u32], id: u32)
-    requires { length numbers.old ≡ size }
+pub fn put_reached(numbers: &mut Numbers, id: u32)
     ensures numbers_after { venue_of numbers.new ≡ with_reached (venue_of numbers.old) id }
     ensures counts { SameCounts numbers.old numbers.new }
 {
@@ -306,7 +300,7 @@ pub fn put_reached(numbers: &mut [u32], id: u32)
 }
 
 // The regular places before the first free one of n; those that are known to be held are not looked at.
-fn held_regulars(numbers: &[u32], n: usize) -> usize
+fn held_regulars(numbers: &Numbers, n: usize) -> usize
     requires { CountedRegulars numbers.now n }
     ensures { (result ≤ n) × Filled holds_regular (regular_in numbers.now) result }
 {
@@ -321,8 +315,8 @@ fn held_regulars(numbers: &[u32], n: usize) -> usize
 }
 
 // The regular places' gaps are closed, and all places in use are known to be held.
-pub fn close_regulars(numbers: &mut [u32])
-    requires { MarkedNumbers numbers.old }
+pub fn close_regulars(numbers: &mut Numbers)
+    requires { Marked numbers.old }
     ensures { RegularsClosed numbers.old numbers.new }
 {
     let n = places::regulars_used(numbers);
@@ -346,7 +340,7 @@ pub fn close_regulars(numbers: &mut [u32])
 }
 
 // The complex places before the first free one of n; those that are known to be held are not looked at.
-fn held_complexes(numbers: &[u32], n: usize) -> usize
+fn held_complexes(numbers: &Numbers, n: usize) -> usize
     requires { CountedComplexes numbers.now n }
     ensures { (result ≤ n) × Filled holds_complex (complex_in numbers.now) result }
 {
@@ -361,8 +355,8 @@ fn held_complexes(numbers: &[u32], n: usize) -> usize
 }
 
 // The complex places' gaps are closed, and all places in use are known to be held.
-pub fn close_complexes(numbers: &mut [u32])
-    requires { MarkedNumbers numbers.old }
+pub fn close_complexes(numbers: &mut Numbers)
+    requires { Marked numbers.old }
     ensures { ComplexesClosed numbers.old numbers.new }
 {
     let n = places::complexes_used(numbers);
@@ -386,8 +380,8 @@ pub fn close_complexes(numbers: &mut [u32])
 }
 
 // All gaps are closed.
-pub fn close_gaps(numbers: &mut [u32])
-    requires { RightNumbers numbers.old }
+pub fn close_gaps(numbers: &mut Numbers)
+    requires { Right numbers.old }
     ensures { GapsClosed numbers.old numbers.new }
 {
     close_regulars(numbers);

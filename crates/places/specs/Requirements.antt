@@ -12,135 +12,80 @@ use Rattle.rules.specs.declared.Edition.{Edition}
 use Rattle.rules.specs.declared.Venue.{Venue}
 use Rattle.rules.specs.Settings.{free_edition}
 
--- a whole slice, and what is kept beside the venue is right
-pub record RightNumbers (b : List ℕ) : Type 0 where
-  pub whole : length b ≡ size
-  pub right : Right b
-
--- a whole slice without gaps
-pub record DenseNumbers (b : List ℕ) : Type 0 where
-  pub whole : length b ≡ size
-  pub dense : Dense b
-
--- a whole slice, and what is known of the places holds
-pub record MarkedNumbers (b : List ℕ) : Type 0 where
-  pub whole : length b ≡ size
-  pub marked : Marked b
-
--- a whole slice, and the figures are those in force
-pub record FiguredNumbers (b : List ℕ) : Type 0 where
-  pub whole : length b ≡ size
-  pub figures : Figured b
-
--- a whole slice and a series
-pub record SeriesReady (b : List ℕ) (s : ℕ) : Type 0 where
-  pub whole : length b ≡ size
-  pub series : s < 8
-
--- a whole slice and one of n places
-pub record PlaceReady (b : List ℕ) (i n : ℕ) : Type 0 where
-  pub whole : length b ≡ size
-  pub place : i < n
-
--- a whole slice and a regular place in use
-pub record RegularReady (b : List ℕ) (i : ℕ) : Type 0 where
-  pub whole : length b ≡ size
-  pub in_use : i < regulars_used b
-
--- a whole slice and a complex place in use
-pub record ComplexReady (b : List ℕ) (i : ℕ) : Type 0 where
-  pub whole : length b ≡ size
-  pub in_use : i < complexes_used b
-
 -- a whole slice and two regular places in use
 pub record RegularsReady (b : List ℕ) (i j : ℕ) : Type 0 where
-  pub whole : length b ≡ size
   pub first : i < regulars_used b
   pub second : j < regulars_used b
 
 -- a whole slice and two complex places in use
 pub record ComplexesReady (b : List ℕ) (i j : ℕ) : Type 0 where
-  pub whole : length b ≡ size
   pub first : i < complexes_used b
   pub second : j < complexes_used b
 
 -- a whole slice, a series and a side
 pub record SideReady (b : List ℕ) (s d : ℕ) : Type 0 where
-  pub whole : length b ≡ size
   pub series : s < 8
   pub side : d < 2
 
 -- a whole slice with the figures in force, and a series
 pub record IncrementReady (b : List ℕ) (s : ℕ) : Type 0 where
-  pub whole : length b ≡ size
   pub series : s < 8
   pub figures : Figured b
 
 -- a whole slice with the figures in force, and a figure
 pub record FigureReady (b : List ℕ) (f : ℕ) : Type 0 where
-  pub whole : length b ≡ size
   pub figure : f < 9
   pub figures : Figured b
 
 -- a whole slice, a series and one of its last 20 generations
 pub record GenerationReady (b : List ℕ) (s k : ℕ) : Type 0 where
-  pub whole : length b ≡ size
   pub series : s < 8
   pub generation : k < 20
 
 -- right numbers and a series
 pub record RightSeries (b : List ℕ) (s : ℕ) : Type 0 where
-  pub whole : length b ≡ size
   pub right : Right b
   pub series : s < 8
 
 -- right numbers and a series, and every order shows what it should
 pub record RightShown (b : List ℕ) (s : ℕ) : Type 0 where
-  pub whole : length b ≡ size
   pub right : Right b
   pub series : s < 8
   pub shows : none_shows_again b ≡ true
 
 -- right numbers, a series and a side
 pub record RightSide (b : List ℕ) (s d : ℕ) : Type 0 where
-  pub whole : length b ≡ size
   pub right : Right b
   pub series : s < 8
   pub side : d < 2
 
 -- right numbers and a legging place
 pub record RightPlace (b : List ℕ) (n : ℕ) : Type 0 where
-  pub whole : length b ≡ size
   pub right : Right b
   pub place : n < 16
 
 -- right numbers and a regular place in use
 pub record RightRegular (b : List ℕ) (i : ℕ) : Type 0 where
-  pub whole : length b ≡ size
   pub in_use : i < regulars_used b
   pub right : Right b
 
 -- right numbers and a complex place in use
 pub record RightComplex (b : List ℕ) (i : ℕ) : Type 0 where
-  pub whole : length b ≡ size
   pub right : Right b
   pub in_use : i < complexes_used b
 
 -- n regular places are in use, and what is known of the places holds
 pub record CountedRegulars (b : List ℕ) (n : ℕ) : Type 0 where
-  pub whole : length b ≡ size
   pub count : n ≡ regulars_used b
   pub marked : Marked b
 
 -- n complex places are in use, and what is known of the places holds
 pub record CountedComplexes (b : List ℕ) (n : ℕ) : Type 0 where
-  pub whole : length b ≡ size
   pub count : n ≡ complexes_used b
   pub marked : Marked b
 
 -- a free regular place for o
 pub record RegularRoom (b : List ℕ) (o : Regular) : Type 0 where
-  pub whole : length b ≡ size
   pub room : regulars_used b < 128
   pub series : o.series < 8
   pub side : o.side < 2
@@ -149,7 +94,6 @@ pub record RegularRoom (b : List ℕ) (o : Regular) : Type 0 where
 
 -- a free complex place for c
 pub record ComplexRoom (b : List ℕ) (c : Complex) : Type 0 where
-  pub whole : length b ≡ size
   pub room : complexes_used b < 32
   pub first : c.series1 < 8
   pub side1 : c.side1 < 2
@@ -158,14 +102,12 @@ pub record ComplexRoom (b : List ℕ) (c : Complex) : Type 0 where
 
 -- place i is free for the edition e
 pub record EditionRoom (b : List ℕ) (i : ℕ) (e : Edition) : Type 0 where
-  pub whole : length b ≡ size
   pub place : i < 32
   pub free : holds_edition (edition_in b i) ≡ false
   pub value : 0 < e.value ⊎ 7 < e.figure
 
 -- right numbers, and a free place for the newest order o
 pub record RightOrder (b : List ℕ) (o : Regular) : Type 0 where
-  pub whole : length b ≡ size
   pub right : Right b
   pub room : regulars_used b < 128
   pub series : o.series < 8
@@ -178,7 +120,6 @@ pub record RightOrder (b : List ℕ) (o : Regular) : Type 0 where
 
 -- numbers without gaps, and a free place for the newest order o
 pub record DenseOrder (b : List ℕ) (o : Regular) : Type 0 where
-  pub whole : length b ≡ size
   pub dense : Dense b
   pub room : regulars_used b < 128
   pub series : o.series < 8
@@ -189,42 +130,19 @@ pub record DenseOrder (b : List ℕ) (o : Regular) : Type 0 where
   pub display : o.display ≤ o.quantity
   pub fully : shows_fully o ≡ true
 
--- a whole slice and a venue that it can stand for
-pub record LoadReady (b : List ℕ) (v : Venue) : Type 0 where
-  pub whole : length b ≡ size
-  pub loadable : Loadable v
-
--- a whole slice and regular orders that it can stand for
-pub record RegularsLoadReady (b : List ℕ) (l : List Regular) : Type 0 where
-  pub whole : length b ≡ size
-  pub placed : RegularsPlaced l
-
--- a whole slice and complex orders that it can stand for
-pub record ComplexesLoadReady (b : List ℕ) (l : List Complex) : Type 0 where
-  pub whole : length b ≡ size
-  pub placed : ComplexesPlaced l
-
 -- numbers without gaps, and an order with the id n rests
 pub record DenseRests (b : List ℕ) (n : ℕ) : Type 0 where
-  pub whole : length b ≡ size
   pub dense : Dense b
   pub rests : (rests_regular (venue_of b) n || rests_complex (venue_of b) n) ≡ true
 
--- a whole slice, and a complex order with the id n rests
-pub record ComplexRests (b : List ℕ) (n : ℕ) : Type 0 where
-  pub whole : length b ≡ size
-  pub rests : rests_complex (venue_of b) n ≡ true
-
 -- right numbers, a free edition, and a value that the figure may take
 pub record RightFigure (b : List ℕ) (f x : ℕ) : Type 0 where
-  pub whole : length b ≡ size
   pub free : free_edition (venue_of b) < 32
   pub value : 0 < x ⊎ 7 < f
   pub right : Right b
 
 -- numbers without gaps, and a free place for the newest order o, which is in range
 pub record InRangeOrder (b : List ℕ) (o : Regular) : Type 0 where
-  pub whole : length b ≡ size
   pub dense : Dense b
   pub room : regulars_used b < 128
   pub in_range : regular_in_range o ≡ true
@@ -233,6 +151,5 @@ pub record InRangeOrder (b : List ℕ) (o : Regular) : Type 0 where
 
 -- a whole slice and two of n places
 pub record PlacesReady (b : List ℕ) (i j n : ℕ) : Type 0 where
-  pub whole : length b ≡ size
   pub first : i < n
   pub second : j < n

@@ -2,20 +2,23 @@
 // read and write places, and speak of the venue that the numbers stand for.
 #![tactic(auto)]
 
-ghost use Rattle.std.specs.Prelude.{◌≡◌, min, ◌-◌, ◌≤◌, pos, ◌-ℤ◌, length, get_or, replicate};
+ghost use Rattle.std.specs.Prelude.{◌≡◌, min, ◌+◌, ◌*◌, ◌-◌, ◌≤◌, pos, ◌-ℤ◌, length, get_or, replicate, ◌<◌};
 ghost use Rattle.rules.specs.Words.{no_regular};
 ghost use Rattle.rules.specs.Settings.{figure_now, free_edition};
 ghost use Rattle.rules.specs.Generation.{generations_of};
 ghost use Rattle.rules.specs.Step.{mask};
-ghost use Rattle.places.specs.Layout.{size, regulars_used, complexes_used, regular_in, complex_in, legging_in, listed_in, edition_in, generations_in, level_in, regular_key, cross_key, venue_of};
+ghost use Rattle.places.specs.Layout.{size, regulars_used, complexes_used, regular_in, complex_in, legging_in, listed_in, edition_in, generations_in, level_in, regular_key, cross_key, venue_of, Right};
 ghost use Rattle.places.specs.Layout.{facing_key};
 ghost use Rattle.places.specs.Layout.{none_shows_again};
-ghost use Rattle.places.specs.Requirements.{RightNumbers, SeriesReady, PlaceReady, FigureReady, GenerationReady};
+ghost use Rattle.places.specs.Requirements.{FigureReady, GenerationReady};
 
 use rules::{Complex, Edition, Generations, Legging, Listed, Regular, Venue};
 
 // The slice's length.
 pub const SIZE: usize = 1393;
+
+// A venue as numbers (specs/Layout.antt): what each of them means, and which are kept beside the venue.
+pub type Numbers = [u32; SIZE];
 
 // Where each number stands (specs/Offsets.antt has the same names) -----------------------------
 
@@ -129,24 +132,22 @@ pub fn at_most(x: usize, n: usize) -> usize
 }
 
 // The regular places in use.
-pub fn regulars_used(numbers: &[u32]) -> usize
-    requires { length numbers.now ≡ size }
+pub fn regulars_used(numbers: &Numbers) -> usize
     ensures { (result ≡ regulars_used numbers.now) × (result ≤ 128) }
 {
     at_most(wide(numbers[REGULARS_USED_AT]), 128)
 }
 
 // The complex places in use.
-pub fn complexes_used(numbers: &[u32]) -> usize
-    requires { length numbers.now ≡ size }
+pub fn complexes_used(numbers: &Numbers) -> usize
     ensures { (result ≡ complexes_used numbers.now) × (result ≤ 32) }
 {
     at_most(wide(numbers[COMPLEXES_USED_AT]), 32)
 }
 
 // What stands at a regular place.
-pub fn regular_at(numbers: &[u32], i: usize) -> Regular
-    requires { PlaceReady numbers.now i 128 }
+pub fn regular_at(numbers: &Numbers, i: usize) -> Regular
+    requires { i < 128 }
     ensures { result ≡ regular_in numbers.now i }
 {
     let place = numbers[4 * i + REGULAR_KEY_AT];
@@ -165,24 +166,24 @@ pub fn regular_at(numbers: &[u32], i: usize) -> Regular
 }
 
 // The id of what stands at a regular place.
-pub fn regular_id(numbers: &[u32], i: usize) -> u32
-    requires { PlaceReady numbers.now i 128 }
+pub fn regular_id(numbers: &Numbers, i: usize) -> u32
+    requires { i < 128 }
     ensures { result ≡ (regular_in numbers.now i).id }
 {
     numbers[4 * i]
 }
 
 // The series and side of what stands at a regular place, as one number.
-pub fn key_at(numbers: &[u32], i: usize) -> usize
-    requires { PlaceReady numbers.now i 128 }
+pub fn key_at(numbers: &Numbers, i: usize) -> usize
+    requires { i < 128 }
     ensures { result ≡ regular_key (regular_in numbers.now i) }
 {
     wide(numbers[4 * i + REGULAR_KEY_AT] % 16)
 }
 
 // What stands at a legging place.
-pub fn legging_at(numbers: &[u32], n: usize) -> Legging
-    requires { PlaceReady numbers.now n 16 }
+pub fn legging_at(numbers: &Numbers, n: usize) -> Legging
+    requires { n < 16 }
     ensures { result ≡ legging_in numbers.now n }
 {
     Legging {
@@ -193,8 +194,8 @@ pub fn legging_at(numbers: &[u32], n: usize) -> Legging
 }
 
 // A series' status and away prices.
-pub fn listed_at(numbers: &[u32], s: usize) -> Listed
-    requires { SeriesReady numbers.now s }
+pub fn listed_at(numbers: &Numbers, s: usize) -> Listed
+    requires { s < 8 }
     ensures { result ≡ listed_in numbers.now s }
 {
     let status = numbers[3 * s + SERIES_STATUS_AT];
@@ -206,8 +207,8 @@ pub fn listed_at(numbers: &[u32], s: usize) -> Listed
 }
 
 // What stands at a place of the editions.
-pub fn edition_at(numbers: &[u32], i: usize) -> Edition
-    requires { PlaceReady numbers.now i 32 }
+pub fn edition_at(numbers: &Numbers, i: usize) -> Edition
+    requires { i < 32 }
     ensures { result ≡ edition_in numbers.now i }
 {
     let figure = numbers[4 * i + EDITION_FIGURE_AT];
@@ -221,8 +222,7 @@ pub fn edition_at(numbers: &[u32], i: usize) -> Edition
 }
 
 // The first place of the editions that is free; 32 where all are held.
-pub fn free_edition(numbers: &[u32]) -> usize
-    requires { length numbers.now ≡ size }
+pub fn free_edition(numbers: &Numbers) -> usize
     ensures { result ≡ free_edition (venue_of numbers.now) }
 {
     let mut i: usize = 0;
@@ -236,7 +236,7 @@ pub fn free_edition(numbers: &[u32]) -> usize
 }
 
 // A figure in force, as it is kept: the increment of a series, or the percentage.
-pub fn figure_at(numbers: &[u32], f: usize) -> u8
+pub fn figure_at(numbers: &Numbers, f: usize) -> u8
     requires { FigureReady numbers.now f }
     ensures { result ≡ figure_now (venue_of numbers.now) f }
 {
@@ -244,16 +244,15 @@ pub fn figure_at(numbers: &[u32], f: usize) -> u8
 }
 
 // The legging places that are filled, as they are kept: bit n is place n.
-pub fn mask_of(numbers: &[u32]) -> u16
-    requires { RightNumbers numbers.now }
+pub fn mask_of(numbers: &Numbers) -> u16
+    requires { Right numbers.now }
     ensures { result ≡ mask (venue_of numbers.now).legging }
 {
     (numbers[LEGGING_MASK_AT] % 65536) as u16
 }
 
 // Every order shows what it should, as far as is known: the show-again flag is 0.
-pub fn none_shows_again(numbers: &[u32]) -> bool
-    requires { length numbers.now ≡ size }
+pub fn none_shows_again(numbers: &Numbers) -> bool
     ensures { result ≡ none_shows_again numbers.now }
 {
     numbers[SHOW_AGAIN_AT] == 0
@@ -267,8 +266,8 @@ fn limit_of(x: u32) -> i32
 }
 
 // What stands at a complex place.
-pub fn complex_at(numbers: &[u32], i: usize) -> Complex
-    requires { PlaceReady numbers.now i 32 }
+pub fn complex_at(numbers: &Numbers, i: usize) -> Complex
+    requires { i < 32 }
     ensures { result ≡ complex_in numbers.now i }
 {
     let legs = numbers[6 * i + COMPLEX_LEGS_AT];
@@ -290,8 +289,8 @@ pub fn complex_at(numbers: &[u32], i: usize) -> Complex
 }
 
 // The legs and ratios of what stands at a complex place, as one number.
-pub fn cross_key_at(numbers: &[u32], i: usize) -> usize
-    requires { PlaceReady numbers.now i 32 }
+pub fn cross_key_at(numbers: &Numbers, i: usize) -> usize
+    requires { i < 32 }
     ensures { result ≡ cross_key (complex_in numbers.now i) }
 {
     let legs = wide(numbers[6 * i + COMPLEX_LEGS_AT] % 256);
@@ -310,15 +309,14 @@ pub fn facing_key(s: u8, d: u8, q: u8, t: u8, e: u8, r: u8) -> usize
 }
 
 // The last id accepted.
-pub fn last_id(numbers: &[u32]) -> u32
-    requires { length numbers.now ≡ size }
+pub fn last_id(numbers: &Numbers) -> u32
     ensures { result ≡ (venue_of numbers.now).last }
 {
     numbers[LAST_ID_AT]
 }
 
 // The message of one of a series' last 20 generations, oldest first; 0 where there were fewer.
-pub fn generation_at(numbers: &[u32], s: usize, k: usize) -> u32
+pub fn generation_at(numbers: &Numbers, s: usize, k: usize) -> u32
     requires { GenerationReady numbers.now s k }
     ensures { result ≡ get_or (generations_of (venue_of numbers.now) s) k 0 }
 {
@@ -326,31 +324,37 @@ pub fn generation_at(numbers: &[u32], s: usize, k: usize) -> u32
 }
 
 // The message of the oldest of them.
-pub fn oldest_at(numbers: &[u32], s: usize) -> u32
-    requires { SeriesReady numbers.now s }
+pub fn oldest_at(numbers: &Numbers, s: usize) -> u32
+    requires { s < 8 }
     ensures { result ≡ get_or (generations_of (venue_of numbers.now) s) 0 0 }
 {
     generation_at(numbers, s, 0)
 }
 
 // The last id that a limited sweep looked at.
-pub fn reached_id(numbers: &[u32]) -> u32
-    requires { length numbers.now ≡ size }
+pub fn reached_id(numbers: &Numbers) -> u32
     ensures { result ≡ (venue_of numbers.now).reached }
 {
     numbers[ID_REACHED_AT]
 }
 
+// A level's size, which is kept as two numbers: its low and its high 32 bits.
+fn size_of(low: u32, high: u32) -> u64
+    ensures { result ≡ low + 4294967296 * high }
+{
+    u64::from(low) + 4294967296 * u64::from(high)
+}
+
 // The level kept for a series and side: n is their legging place.
-pub fn level_at(numbers: &[u32], n: usize) -> Level
-    requires { PlaceReady numbers.now n 16 }
+pub fn level_at(numbers: &Numbers, n: usize) -> Level
+    requires { n < 16 }
     ensures { result ≡ level_in numbers.now n }
 {
     let low = numbers[3 * n + LEVEL_LOW_AT];
     let high = numbers[3 * n + LEVEL_HIGH_AT];
     Level {
         price: numbers[3 * n + LEVEL_PRICE_AT],
-        size: (low as u64) + 4294967296 * (high as u64),
+        size: size_of(low, high),
     }
 }
 
@@ -358,9 +362,8 @@ pub fn level_at(numbers: &[u32], n: usize) -> Level
 
 // The regular orders, place by place, in the places of a table that is free. They are most of a venue: the venue's own table is filled, and no second one
 // stands on the stack.
-fn read_regulars(r: &mut [Regular; 128], numbers: &[u32])
-    requires whole { length numbers.now ≡ size }
-    requires free { r.old ≡ replicate 128 no_regular }
+fn read_regulars(r: &mut [Regular; 128], numbers: &Numbers)
+    requires { r.old ≡ replicate 128 no_regular }
     ensures { r.new ≡ (venue_of numbers.now).regular }
 {
     let n = regulars_used(numbers);
@@ -373,8 +376,7 @@ fn read_regulars(r: &mut [Regular; 128], numbers: &[u32])
 }
 
 // The complex orders, place by place.
-fn complexes_of(numbers: &[u32]) -> [Complex; 32]
-    requires { length numbers.now ≡ size }
+fn complexes_of(numbers: &Numbers) -> [Complex; 32]
     ensures { result ≡ (venue_of numbers.now).complex }
 {
     let free = rules::NO_COMPLEX;
@@ -390,8 +392,7 @@ fn complexes_of(numbers: &[u32]) -> [Complex; 32]
 }
 
 // The legging orders, place by place.
-fn leggings_of(numbers: &[u32]) -> [Legging; 16]
-    requires { length numbers.now ≡ size }
+fn leggings_of(numbers: &Numbers) -> [Legging; 16]
     ensures { result ≡ (venue_of numbers.now).legging }
 {
     let free = rules::NO_LEGGING;
@@ -406,8 +407,7 @@ fn leggings_of(numbers: &[u32]) -> [Legging; 16]
 }
 
 // The status and away prices of every series.
-fn series_of(numbers: &[u32]) -> [Listed; 8]
-    requires { length numbers.now ≡ size }
+fn series_of(numbers: &Numbers) -> [Listed; 8]
     ensures { result ≡ (venue_of numbers.now).series }
 {
     let free = rules::NOT_LISTED;
@@ -422,8 +422,7 @@ fn series_of(numbers: &[u32]) -> [Listed; 8]
 }
 
 // The editions, place by place.
-fn editions_of(numbers: &[u32]) -> [Edition; 32]
-    requires { length numbers.now ≡ size }
+fn editions_of(numbers: &Numbers) -> [Edition; 32]
     ensures { result ≡ (venue_of numbers.now).editions }
 {
     let free = rules::NO_EDITION;
@@ -438,8 +437,8 @@ fn editions_of(numbers: &[u32]) -> [Edition; 32]
 }
 
 // The messages of a series' last 20 generations.
-fn generations_at(numbers: &[u32], s: usize) -> Generations
-    requires { SeriesReady numbers.now s }
+fn generations_at(numbers: &Numbers, s: usize) -> Generations
+    requires { s < 8 }
     ensures { result ≡ generations_in numbers.now s }
 {
     let mut messages = [0u32; 20];
@@ -452,8 +451,7 @@ fn generations_at(numbers: &[u32], s: usize) -> Generations
 }
 
 // The messages of every series' last 20 generations.
-fn generations_of(numbers: &[u32]) -> [Generations; 8]
-    requires { length numbers.now ≡ size }
+fn generations_of(numbers: &Numbers) -> [Generations; 8]
     ensures { result ≡ (venue_of numbers.now).generations }
 {
     let none = rules::NO_GENERATIONS;
@@ -469,8 +467,7 @@ fn generations_of(numbers: &[u32]) -> [Generations; 8]
 
 // The venue that the numbers stand for. This function is compiled by itself: the stack that its tables take is free again when it returns.
 #[inline(never)]
-pub fn venue_of(numbers: &[u32]) -> Venue
-    requires { length numbers.now ≡ size }
+pub fn venue_of(numbers: &Numbers) -> Venue
     ensures { result ≡ venue_of numbers.now }
 {
     let complex = complexes_of(numbers);

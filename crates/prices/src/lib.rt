@@ -10,10 +10,10 @@ ghost use Rattle.rules.specs.Complex.{any_closed};
 ghost use Rattle.places.specs.Layout.{size, venue_of};
 ghost use Rattle.levels.specs.Grid.{sides_in, LegsIn};
 ghost use Rattle.levels.specs.Requirements.{BandReady, LevelReady, BestReady, BestOfSeries};
-ghost use Rattle.places.specs.Requirements.{SeriesReady, SideReady, IncrementReady};
+ghost use Rattle.places.specs.Requirements.{SideReady, IncrementReady};
 
 use levels::{LegSides, TakenLevels};
-use places::Level;
+use places::{Level, Numbers};
 use rules::{Complex, Leg, Legging};
 
 // Prices of a side ----------------------------------------------------------------------------
@@ -43,7 +43,7 @@ pub fn sides_of(g: [[Level; 2]; 8], c: Complex, s: u8, d: u8) -> LegSides
 }
 
 // The own price of the legging order of a series and side; 0 where there is none.
-pub fn own_price(numbers: &[u32], s: u8, d: u8) -> u32
+pub fn own_price(numbers: &Numbers, s: u8, d: u8) -> u32
     requires { SideReady numbers.now s d }
     ensures { result ≡ own_price (legging_at (venue_of numbers.now) s d) }
 {
@@ -55,7 +55,7 @@ pub fn own_price(numbers: &[u32], s: u8, d: u8) -> u32
 }
 
 // The best own price of a side, legging included; best is its best regular price.
-pub fn best_own(numbers: &[u32], best: u32, s: u8, d: u8) -> u32
+pub fn best_own(numbers: &Numbers, best: u32, s: u8, d: u8) -> u32
     requires { BestReady numbers.now best s d }
     ensures { result ≡ best_own (venue_of numbers.now) s d }
 {
@@ -64,7 +64,7 @@ pub fn best_own(numbers: &[u32], best: u32, s: u8, d: u8) -> u32
 }
 
 // The size at the best own price of a side, legging included; level is that of its regular orders.
-pub fn own_size(numbers: &[u32], level: Level, s: u8, d: u8) -> u64
+pub fn own_size(numbers: &Numbers, level: Level, s: u8, d: u8) -> u64
     requires { LevelReady numbers.now level s d }
     ensures { result ≡ own_size (venue_of numbers.now) s d }
 {
@@ -83,7 +83,7 @@ pub fn own_size(numbers: &[u32], level: Level, s: u8, d: u8) -> u64
 }
 
 // The best regular price, 0 if there is none or if the legging order has a strictly better own price.
-pub fn clear_price(numbers: &[u32], best: u32, s: u8, d: u8) -> u32
+pub fn clear_price(numbers: &Numbers, best: u32, s: u8, d: u8) -> u32
     requires { BestReady numbers.now best s d }
     ensures { result ≡ clear_price (venue_of numbers.now) s d }
 {
@@ -95,8 +95,8 @@ pub fn clear_price(numbers: &[u32], best: u32, s: u8, d: u8) -> u32
 }
 
 // The away price of a side.
-pub fn away_price(numbers: &[u32], s: u8, d: u8) -> u32
-    requires { SeriesReady numbers.now s }
+pub fn away_price(numbers: &Numbers, s: u8, d: u8) -> u32
+    requires { s < 8 }
     ensures { result ≡ away (venue_of numbers.now) s d }
 {
     let x = places::listed_at(numbers, s as usize);
@@ -107,7 +107,7 @@ pub fn away_price(numbers: &[u32], s: u8, d: u8) -> u32
 }
 
 // The better of away and best regular price.
-pub fn market_best(numbers: &[u32], best: u32, s: u8, d: u8) -> u32
+pub fn market_best(numbers: &Numbers, best: u32, s: u8, d: u8) -> u32
     requires { BestOfSeries numbers.now best s d }
     ensures { result ≡ market_best (venue_of numbers.now) s d }
 {
@@ -116,7 +116,7 @@ pub fn market_best(numbers: &[u32], best: u32, s: u8, d: u8) -> u32
 }
 
 // The net t of a complex order is in band; taken has the levels that its legs take.
-pub fn in_band(numbers: &[u32], taken: TakenLevels, c: Complex, t: i64) -> bool
+pub fn in_band(numbers: &Numbers, taken: TakenLevels, c: Complex, t: i64) -> bool
     requires { BandReady numbers.now taken c t }
     ensures { result ≡ in_band (venue_of numbers.now) c t }
 {
@@ -145,7 +145,7 @@ pub fn in_band(numbers: &[u32], taken: TakenLevels, c: Complex, t: i64) -> bool
 }
 
 // A series' increment in force. It is not 0.
-pub fn increment_of(numbers: &[u32], s: u8) -> u8
+pub fn increment_of(numbers: &Numbers, s: u8) -> u8
     requires { IncrementReady numbers.now s }
     ensures { (result ≡ increment (venue_of numbers.now) s) × (0 < result) }
 {
@@ -179,8 +179,7 @@ pub fn is_complex_of(c: Complex, id: u32) -> bool
 }
 
 // The complex order of a legging order.
-pub fn parent_of(numbers: &[u32], l: Legging) -> Complex
-    requires { length numbers.now ≡ size }
+pub fn parent_of(numbers: &Numbers, l: Legging) -> Complex
     ensures { result ≡ parent_of (venue_of numbers.now) l }
 {
     let n = places::complexes_used(numbers);
@@ -196,8 +195,8 @@ pub fn parent_of(numbers: &[u32], l: Legging) -> Complex
 }
 
 // A series' status.
-pub fn status_of(numbers: &[u32], s: u8) -> u8
-    requires { SeriesReady numbers.now s }
+pub fn status_of(numbers: &Numbers, s: u8) -> u8
+    requires { s < 8 }
     ensures { result ≡ status_of (venue_of numbers.now) s }
 {
     let x = places::listed_at(numbers, s as usize);
@@ -205,8 +204,8 @@ pub fn status_of(numbers: &[u32], s: u8) -> u8
 }
 
 // Both series of a complex order are open.
-pub fn both_open(numbers: &[u32], c: Complex) -> bool
-    requires { (length numbers.now ≡ size) × (LegsIn c) }
+pub fn both_open(numbers: &Numbers, c: Complex) -> bool
+    requires { LegsIn c }
     ensures { result ≡ both_open (venue_of numbers.now) c }
 {
     if status_of(numbers, c.series1) != 1 {
@@ -216,8 +215,8 @@ pub fn both_open(numbers: &[u32], c: Complex) -> bool
 }
 
 // A series of a complex order is closed.
-pub fn any_closed(numbers: &[u32], c: Complex) -> bool
-    requires { (length numbers.now ≡ size) × (LegsIn c) }
+pub fn any_closed(numbers: &Numbers, c: Complex) -> bool
+    requires { LegsIn c }
     ensures { result ≡ any_closed (venue_of numbers.now) c }
 {
     if status_of(numbers, c.series1) == 0 {

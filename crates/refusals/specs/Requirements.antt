@@ -7,12 +7,10 @@ use Rattle.rules.specs.declared.Complex.{Complex}
 
 -- numbers without gaps, and an order in range
 pub record OrderInRange (b : List ℕ) (o : Regular) : Type 0 where
-  pub whole : length b ≡ size
   pub dense : Dense b
   pub in_range : regular_in_range o ≡ true
 
 -- numbers without gaps, and a complex order in range
 pub record ComplexInRange (b : List ℕ) (c : Complex) : Type 0 where
-  pub whole : length b ≡ size
   pub dense : Dense b
   pub in_range : complex_in_range c ≡ true

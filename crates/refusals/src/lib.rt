@@ -1,23 +1,24 @@
 // Which refusal a message gets whose fields are in range, or none.
 #![tactic(auto)]
 
-ghost use Rattle.std.specs.Prelude.{◌≡◌, not, ◌&&◌, ◌||◌, ltb, eqb, length};
+ghost use Rattle.std.specs.Prelude.{◌≡◌, not, ◌&&◌, ◌||◌, ltb, eqb, length, ◌<◌};
 ghost use Rattle.rules.specs.declared.Message.TheVariants.{Order, TwoLeg};
 ghost use Rattle.rules.specs.Base.{held, all};
 ghost use Rattle.rules.specs.Complex.{rests_regular, rests_complex};
 ghost use Rattle.rules.specs.Refusals.{off_increment, idle, refusal_of};
-ghost use Rattle.places.specs.Layout.{size, venue_of};
+ghost use Rattle.places.specs.Layout.{size, venue_of, Dense};
 ghost use Rattle.refusals.specs.Editions.{edition_refusal};
-ghost use Rattle.places.specs.Requirements.{DenseNumbers, SeriesReady, IncrementReady};
+ghost use Rattle.places.specs.Requirements.{IncrementReady};
 ghost use Rattle.refusals.specs.Requirements.{OrderInRange, ComplexInRange};
 
 use book::Found;
+use places::Numbers;
 use rules::{Complex, Regular};
 
 // Refusals 4 and 5 to 8: of orders --------------------------------------------------------------
 
 // An order's price is off its series' increment in force.
-fn off_increment(numbers: &[u32], o: Regular) -> bool
+fn off_increment(numbers: &Numbers, o: Regular) -> bool
     requires { IncrementReady numbers.now o.series }
     ensures { result ≡ off_increment (venue_of numbers.now) (Order o) }
 {
@@ -26,7 +27,7 @@ fn off_increment(numbers: &[u32], o: Regular) -> bool
 }
 
 // The refusal of an order with its fields in their ranges, or 0.
-pub fn order_refusal(numbers: &[u32], o: Regular) -> u8
+pub fn order_refusal(numbers: &Numbers, o: Regular) -> u8
     requires { OrderInRange numbers.now o }
     ensures { result ≡ refusal_of (venue_of numbers.now) (Order o) }
 {
@@ -46,7 +47,7 @@ pub fn order_refusal(numbers: &[u32], o: Regular) -> u8
 }
 
 // The refusal of a complex order with its fields in their ranges, or 0.
-pub fn complex_refusal(numbers: &[u32], c: Complex) -> u8
+pub fn complex_refusal(numbers: &Numbers, c: Complex) -> u8
     requires { ComplexInRange numbers.now c }
     ensures { result ≡ refusal_of (venue_of numbers.now) (TwoLeg c) }
 {
@@ -63,8 +64,7 @@ pub fn complex_refusal(numbers: &[u32], c: Complex) -> u8
 }
 
 // A complex order with an id rests.
-fn complex_rests(numbers: &[u32], id: u32) -> bool
-    requires { length numbers.now ≡ size }
+fn complex_rests(numbers: &Numbers, id: u32) -> bool
     ensures { result ≡ rests_complex (venue_of numbers.now) id }
 {
     let found = book::complex_place(numbers, id);
@@ -75,8 +75,8 @@ fn complex_rests(numbers: &[u32], id: u32) -> bool
 }
 
 // An order with an id rests, in one book or the other.
-pub fn rests(numbers: &[u32], id: u32) -> bool
-    requires { DenseNumbers numbers.now }
+pub fn rests(numbers: &Numbers, id: u32) -> bool
+    requires { Dense numbers.now }
     ensures { result ≡ (rests_regular (venue_of numbers.now) id || rests_complex (venue_of numbers.now) id) }
 {
     let found = book::regular_place(numbers, id);
@@ -89,8 +89,7 @@ pub fn rests(numbers: &[u32], id: u32) -> bool
 // Refusals 11 to 13: of editions ----------------------------------------------------------------
 
 // An edition is above each that is kept.
-fn is_above(numbers: &[u32], edition: u32) -> bool
-    requires { length numbers.now ≡ size }
+fn is_above(numbers: &Numbers, edition: u32) -> bool
     ensures { result ≡ all (λ k. ltb k.edition edition) (venue_of numbers.now).editions }
 {
     let mut i: usize = 0;
@@ -115,8 +114,7 @@ fn rests_in(o: Regular, s: u8) -> bool
 }
 
 // No regular order rests in a series.
-fn no_order_in(numbers: &[u32], s: u8) -> bool
-    requires { length numbers.now ≡ size }
+fn no_order_in(numbers: &Numbers, s: u8) -> bool
     ensures { result ≡ all (λ o. not (held o.quantity && eqb o.series s)) (venue_of numbers.now).regular }
 {
     let n = places::regulars_used(numbers);
@@ -145,8 +143,7 @@ fn has_leg_in(c: Complex, s: u8) -> bool
 }
 
 // No resting complex order has a leg in a series.
-fn no_leg_in(numbers: &[u32], s: u8) -> bool
-    requires { length numbers.now ≡ size }
+fn no_leg_in(numbers: &Numbers, s: u8) -> bool
     ensures { result ≡ all (λ c. not (held c.quantity && (eqb c.series1 s || eqb c.series2 s))) (venue_of numbers.now).complex }
 {
     let n = places::complexes_used(numbers);
@@ -162,8 +159,8 @@ fn no_leg_in(numbers: &[u32], s: u8) -> bool
 }
 
 // A series is closed, and no order or leg rests in it.
-pub fn is_idle(numbers: &[u32], s: u8) -> bool
-    requires { SeriesReady numbers.now s }
+pub fn is_idle(numbers: &Numbers, s: u8) -> bool
+    requires { s < 8 }
     ensures { result ≡ idle (venue_of numbers.now) s }
 {
     if prices::status_of(numbers, s) != 0 {
@@ -176,8 +173,7 @@ pub fn is_idle(numbers: &[u32], s: u8) -> bool
 }
 
 // The first of 11 to 13 that a new edition meets; `used` where its figure is the increment of a series in use.
-pub fn edition_refusal(numbers: &[u32], edition: u32, used: bool) -> u8
-    requires { length numbers.now ≡ size }
+pub fn edition_refusal(numbers: &Numbers, edition: u32, used: bool) -> u8
     ensures { result ≡ edition_refusal (venue_of numbers.now) edition used }
 {
     if !is_above(numbers, edition) {

@@ -1,20 +1,21 @@
 // Removal of legging orders from the venue in its slice: those that fail go, with their records (68) by rising place.
 #![tactic(auto)]
 
-ghost use Rattle.std.specs.Prelude.{◌≡◌, ◌||◌, ℕ, eqb, length};
+ghost use Rattle.std.specs.Prelude.{◌≡◌, ◌||◌, ℕ, eqb, length, ◌<◌};
 ghost use Rattle.rules.specs.declared.Verdict.TheVariants.{Fails};
 ghost use Rattle.rules.specs.Removal.{remove, remove_of, fail_if};
 ghost use Rattle.records.specs.Seen.{seen};
 ghost use Rattle.records.specs.Stage.{stage, ◌does◌};
 ghost use Rattle.places.specs.Layout.{size, venue_of, SameCounts};
 ghost use Rattle.removal.specs.Causes.{remove_place, verdict_by, verdict_in};
-ghost use Rattle.places.specs.Requirements.{PlaceReady, PlacesReady};
+ghost use Rattle.places.specs.Requirements.{PlacesReady};
 
+use places::Numbers;
 use rules::{Cause, Verdict};
 
 // What stands at place n goes; a free place stays as it is.
-fn remove_place(numbers: &mut [u32], n: usize, cause: Cause, out: &mut [u8], at: usize) -> usize
-    requires { PlaceReady numbers.old n 16 }
+fn remove_place(numbers: &mut Numbers, n: usize, cause: Cause, out: &mut [u8], at: usize) -> usize
+    requires { n < 16 }
     ensures result_after { stage (venue_of numbers.new) out.new result ≡ seen out.old at does remove_place n (Fails cause) (venue_of numbers.old) }
     ensures counts { SameCounts numbers.old numbers.new }
 {
@@ -28,8 +29,13 @@ fn remove_place(numbers: &mut [u32], n: usize, cause: Cause, out: &mut [u8], at:
 }
 
 // The legging orders of one parent go.
-pub fn remove_of(numbers: &mut [u32], parent: u32, cause: Cause, out: &mut [u8], at: usize) -> usize
-    requires { length numbers.old ≡ size }
+pub fn remove_of(
+    numbers: &mut Numbers,
+    parent: u32,
+    cause: Cause,
+    out: &mut [u8],
+    at: usize,
+) -> usize
     ensures result_after { stage (venue_of numbers.new) out.new result ≡ seen out.old at does remove_of parent cause (venue_of numbers.old) }
     ensures counts { SameCounts numbers.old numbers.new }
 {
@@ -48,8 +54,8 @@ pub fn remove_of(numbers: &mut [u32], parent: u32, cause: Cause, out: &mut [u8],
 }
 
 // The legging order at one place goes.
-pub fn remove_one(numbers: &mut [u32], n: usize, cause: Cause, out: &mut [u8], at: usize) -> usize
-    requires { PlaceReady numbers.old n 16 }
+pub fn remove_one(numbers: &mut Numbers, n: usize, cause: Cause, out: &mut [u8], at: usize) -> usize
+    requires { n < 16 }
     ensures result_after { stage (venue_of numbers.new) out.new result ≡ seen out.old at does remove (λ m _. fail_if (eqb m n) cause) (venue_of numbers.old) }
     ensures counts { SameCounts numbers.old numbers.new }
 {
@@ -58,7 +64,7 @@ pub fn remove_one(numbers: &mut [u32], n: usize, cause: Cause, out: &mut [u8], a
 
 // The legging orders at two places go, the one at the lesser place first.
 pub fn remove_at(
-    numbers: &mut [u32],
+    numbers: &mut Numbers,
     n1: usize,
     n2: usize,
     cause: Cause,
@@ -115,8 +121,7 @@ pub fn verdict_by(x: u8) -> Verdict
 }
 
 // The legging orders at the places that have a cause's number in `causes` go, each for that cause.
-pub fn remove_by_causes(numbers: &mut [u32], causes: u64, out: &mut [u8], at: usize) -> usize
-    requires { length numbers.old ≡ size }
+pub fn remove_by_causes(numbers: &mut Numbers, causes: u64, out: &mut [u8], at: usize) -> usize
     ensures result_after { stage (venue_of numbers.new) out.new result ≡ seen out.old at does remove (verdict_in causes) (venue_of numbers.old) }
     ensures counts { SameCounts numbers.old numbers.new }
 {

@@ -5,7 +5,6 @@ use Rattle.set_parts.specs.declared.Orders.{Orders}
 
 -- of n regular and m complex places those of t are done, and one is left
 pub record OrdersLeft (b : List ℕ) (n m : ℕ) (t : Orders) : Type 0 where
-  pub whole : length b ≡ size
   pub regulars : n ≤ 128
   pub complexes : m ≤ 32
   pub regular : t.regular ≤ n

@@ -1,7 +1,7 @@
 // The parts of a venue's set of records (document 02 (h), crate sets), each written from the numbers of the venue.
 #![tactic(auto)]
 
-ghost use Rattle.std.specs.Prelude.{◌≡◌, ◌∷◌, ◌++◌, map, ◌+◌, ◌≤◌, length};
+ghost use Rattle.std.specs.Prelude.{◌≡◌, ◌∷◌, ◌++◌, map, ◌+◌, ◌≤◌, length, ◌<◌};
 ghost use Rattle.rules.specs.declared.Message.TheVariants.{Away, Status};
 ghost use Rattle.rules.specs.Base.{held, keep};
 ghost use Rattle.rules.specs.Bytes.{u8};
@@ -12,9 +12,9 @@ ghost use Rattle.places.specs.Layout.{size, venue_of, regulars_used, complexes_u
 ghost use Rattle.sets.specs.Set.{first_record, series_records, edition_record, regular_record, complex_record, legging_record, legging_records, generation_record, generation_records, reached_records, joined};
 ghost use Rattle.set_parts.specs.SetMemory.{set_memory, ◌adds◌};
 ghost use Rattle.set_parts.specs.Parts.{record_if, orders_from, regular_next, OneMore, side_record};
-ghost use Rattle.places.specs.Requirements.{SeriesReady};
 ghost use Rattle.set_parts.specs.Requirements.{OrdersLeft};
 
+use places::Numbers;
 use rules::{Complex, Edition, Legging, Listed, Regular};
 
 // Where the orders of both books stand: the position, and the next place of either.
@@ -158,8 +158,7 @@ pub fn put_reached(out: &mut [u8], at: usize, id: u32) -> usize
 // Parts ---------------------------------------------------------------------------------------
 
 // 5 and 4 for each series in turn.
-pub fn put_series(numbers: &[u32], out: &mut [u8], at: usize) -> usize
-    requires { length numbers.now ≡ size }
+pub fn put_series(numbers: &Numbers, out: &mut [u8], at: usize) -> usize
     ensures { set_memory out.new result ≡ set_memory out.old at adds joined (series_records 0 (venue_of numbers.now).series) }
 {
     let mut pos = at;
@@ -173,8 +172,7 @@ pub fn put_series(numbers: &[u32], out: &mut [u8], at: usize) -> usize
 }
 
 // The editions by rising edition, as their places stand.
-pub fn put_editions(numbers: &[u32], out: &mut [u8], at: usize) -> usize
-    requires { length numbers.now ≡ size }
+pub fn put_editions(numbers: &Numbers, out: &mut [u8], at: usize) -> usize
     ensures { set_memory out.new result ≡ set_memory out.old at adds joined (map edition_record (keep holds_edition (venue_of numbers.now).editions)) }
 {
     let mut pos = at;
@@ -188,8 +186,8 @@ pub fn put_editions(numbers: &[u32], out: &mut [u8], at: usize) -> usize
 }
 
 // Of the orders left in n regular and m complex places, the regular one at place i comes next, and not the complex one at place j.
-fn regular_next(numbers: &[u32], n: usize, m: usize, i: usize, j: usize) -> bool
-    requires { (length numbers.now ≡ size) × (n ≤ 128) × (m ≤ 32) }
+fn regular_next(numbers: &Numbers, n: usize, m: usize, i: usize, j: usize) -> bool
+    requires { (n ≤ 128) × (m ≤ 32) }
     ensures { result ≡ regular_next numbers.now n m i j }
 {
     if n <= i {
@@ -203,7 +201,7 @@ fn regular_next(numbers: &[u32], n: usize, m: usize, i: usize, j: usize) -> bool
 }
 
 // One order more, of either book.
-fn put_next(numbers: &[u32], n: usize, m: usize, t: Orders, out: &mut [u8]) -> Orders
+fn put_next(numbers: &Numbers, n: usize, m: usize, t: Orders, out: &mut [u8]) -> Orders
     requires { OrdersLeft numbers.now n m t }
     ensures { OneMore numbers.now n m t out.old result out.new }
 {
@@ -229,8 +227,7 @@ fn put_next(numbers: &[u32], n: usize, m: usize, t: Orders, out: &mut [u8]) -> O
 }
 
 // The resting orders of both books by rising id.
-pub fn put_orders(numbers: &[u32], out: &mut [u8], at: usize) -> usize
-    requires { length numbers.now ≡ size }
+pub fn put_orders(numbers: &Numbers, out: &mut [u8], at: usize) -> usize
     ensures { set_memory out.new result ≡ set_memory out.old at adds joined (orders_from numbers.now (regulars_used numbers.now) (complexes_used numbers.now) 0 0) }
 {
     let n = places::regulars_used(numbers);
@@ -247,8 +244,8 @@ pub fn put_orders(numbers: &[u32], out: &mut [u8], at: usize) -> usize
 }
 
 // The legging orders of a series, its first side's first.
-fn put_sides(numbers: &[u32], out: &mut [u8], at: usize, s: usize) -> usize
-    requires { SeriesReady numbers.now s }
+fn put_sides(numbers: &Numbers, out: &mut [u8], at: usize, s: usize) -> usize
+    requires { s < 8 }
     ensures { set_memory out.new result ≡ set_memory out.old at adds (side_record numbers.now s 0 ++ side_record numbers.now s 1) }
 {
     let l = places::legging_at(numbers, 2 * s);
@@ -258,8 +255,7 @@ fn put_sides(numbers: &[u32], out: &mut [u8], at: usize, s: usize) -> usize
 }
 
 // The legging orders by rising place.
-pub fn put_leggings(numbers: &[u32], out: &mut [u8], at: usize) -> usize
-    requires { length numbers.now ≡ size }
+pub fn put_leggings(numbers: &Numbers, out: &mut [u8], at: usize) -> usize
     ensures { set_memory out.new result ≡ set_memory out.old at adds joined (legging_records 0 (venue_of numbers.now).legging) }
 {
     let mut pos = at;
@@ -272,8 +268,8 @@ pub fn put_leggings(numbers: &[u32], out: &mut [u8], at: usize) -> usize
 }
 
 // A series' last generations, oldest first.
-fn put_generations(numbers: &[u32], out: &mut [u8], at: usize, s: usize) -> usize
-    requires { SeriesReady numbers.now s }
+fn put_generations(numbers: &Numbers, out: &mut [u8], at: usize, s: usize) -> usize
+    requires { s < 8 }
     ensures { set_memory out.new result ≡ set_memory out.old at adds joined (map (generation_record s) (keep held (generations_of (venue_of numbers.now) s))) }
 {
     let mut pos = at;
@@ -287,8 +283,7 @@ fn put_generations(numbers: &[u32], out: &mut [u8], at: usize, s: usize) -> usiz
 }
 
 // Those of each series in turn.
-pub fn put_all_generations(numbers: &[u32], out: &mut [u8], at: usize) -> usize
-    requires { length numbers.now ≡ size }
+pub fn put_all_generations(numbers: &Numbers, out: &mut [u8], at: usize) -> usize
     ensures { set_memory out.new result ≡ set_memory out.old at adds joined (generation_records 0 (venue_of numbers.now).generations) }
 {
     let mut pos = at;

@@ -2,12 +2,12 @@
 #![tactic(auto)]
 
 ghost use Rattle.std.specs.Prelude.{◌≡◌, length};
-ghost use Rattle.places.specs.Layout.{venue_of};
+ghost use Rattle.places.specs.Layout.{venue_of, Dense};
 ghost use Rattle.sets.specs.Set.{set_of, joined, not_written, write_set};
 ghost use Rattle.set_parts.specs.SetMemory.{set_memory, ◌adds◌};
 ghost use Rattle.set_writer.specs.Saving.{saved_of};
-ghost use Rattle.places.specs.Requirements.{DenseNumbers};
 
+use places::Numbers;
 use rules::Venue;
 
 // What a writing call returns: its number, and how many bytes the set has.
@@ -20,8 +20,8 @@ pub struct Saved {
 // The set ---------------------------------------------------------------------------------------
 
 // The set of the venue in the slice, from the front of the memory on; a position past the end where it does not fit.
-fn put_set(numbers: &[u32], number: u32, out: &mut [u8]) -> usize
-    requires { DenseNumbers numbers.now }
+fn put_set(numbers: &Numbers, number: u32, out: &mut [u8]) -> usize
+    requires { Dense numbers.now }
     ensures { set_memory out.new result ≡ set_memory out.old 0 adds joined (set_of number (venue_of numbers.now)) }
 {
     let first = set_parts::put_first(out, 0, number, places::last_id(numbers));

@@ -11,19 +11,19 @@ ghost use Rattle.rules.specs.Standing.{other_clear, pairs, verdict_of, verdict, 
 ghost use Rattle.rules.specs.Generation.{others_stand};
 ghost use Rattle.records.specs.Seen.{seen};
 ghost use Rattle.records.specs.Stage.{stage, ◌does◌};
-ghost use Rattle.places.specs.Layout.{legging_in, venue_of, SameCounts};
+ghost use Rattle.places.specs.Layout.{legging_in, venue_of, SameCounts, Right};
 ghost use Rattle.removal.specs.Causes.{cause_at};
 ghost use Rattle.settling.specs.Parts.{other_taken};
 ghost use Rattle.levels.specs.Requirements.{TakenReady, GridReady, GridPlaceReady, SidesReady};
-ghost use Rattle.places.specs.Requirements.{RightNumbers, IncrementReady};
+ghost use Rattle.places.specs.Requirements.{IncrementReady};
 
 use arithmetic::limit_of;
 use levels::{LegSides, TakenLevels};
-use places::Level;
+use places::{Level, Numbers};
 use rules::{Cause, Complex, Legging, Verdict};
 
 // A price p at side d of series s, displayed.
-pub fn displayed_in_series(numbers: &[u32], s: u8, d: u8, p: u32) -> u64
+pub fn displayed_in_series(numbers: &Numbers, s: u8, d: u8, p: u32) -> u64
     requires { IncrementReady numbers.now s }
     ensures { result ≡ displayed_price (increment (venue_of numbers.now) s) d p }
 {
@@ -31,7 +31,7 @@ pub fn displayed_in_series(numbers: &[u32], s: u8, d: u8, p: u32) -> u64
 }
 
 // A price p at side d of series s, displayed, is no worse than best, the best regular of its side.
-pub fn displayed_no_worse(numbers: &[u32], best: u32, s: u8, d: u8, p: u32) -> bool
+pub fn displayed_no_worse(numbers: &Numbers, best: u32, s: u8, d: u8, p: u32) -> bool
     requires { IncrementReady numbers.now s }
     ensures { result ≡ not (better d best (displayed_price (increment (venue_of numbers.now) s) d p)) }
 {
@@ -49,7 +49,7 @@ pub fn other_level(taken: TakenLevels, c: Complex, s: u8) -> Level
 }
 
 // The clear price of that leg.
-pub fn other_clear(numbers: &[u32], taken: TakenLevels, c: Complex, s: u8) -> u32
+pub fn other_clear(numbers: &Numbers, taken: TakenLevels, c: Complex, s: u8) -> u32
     requires { TakenReady numbers.now taken c }
     ensures { result ≡ other_clear (venue_of numbers.now) c s }
 {
@@ -64,7 +64,7 @@ pub fn other_clear(numbers: &[u32], taken: TakenLevels, c: Complex, s: u8) -> u3
 }
 
 // The other leg of c has a clear price, its net with the legging order's is no more than N, and its size is enough.
-pub fn can_pair(numbers: &[u32], taken: TakenLevels, c: Complex, s: u8, d: u8, l: Legging) -> bool
+pub fn can_pair(numbers: &Numbers, taken: TakenLevels, c: Complex, s: u8, d: u8, l: Legging) -> bool
     requires { TakenReady numbers.now taken c }
     ensures { result ≡ pairs (venue_of numbers.now) c s d l.price l.quantity }
 {
@@ -83,7 +83,14 @@ pub fn can_pair(numbers: &[u32], taken: TakenLevels, c: Complex, s: u8, d: u8, l
 }
 
 // The test of a legging order of c at side d of series s: of the causes that apply, the first of 1, 5, 2, 6.
-pub fn test_order(numbers: &[u32], sides: LegSides, c: Complex, s: u8, d: u8, l: Legging) -> Verdict
+pub fn test_order(
+    numbers: &Numbers,
+    sides: LegSides,
+    c: Complex,
+    s: u8,
+    d: u8,
+    l: Legging,
+) -> Verdict
     requires { SidesReady numbers.now sides c s d }
     ensures { result ≡ verdict_of (venue_of numbers.now) c s d l }
 {
@@ -104,7 +111,7 @@ pub fn test_order(numbers: &[u32], sides: LegSides, c: Complex, s: u8, d: u8, l:
 }
 
 // The test of what stands at place n.
-pub fn judge(numbers: &[u32], g: [[Level; 2]; 8], n: usize) -> Verdict
+pub fn judge(numbers: &Numbers, g: [[Level; 2]; 8], n: usize) -> Verdict
     requires { GridPlaceReady numbers.now g n }
     ensures { result ≡ verdict (venue_of numbers.now) n (get_or (venue_of numbers.now).legging n no_legging) }
 {
@@ -120,7 +127,7 @@ pub fn judge(numbers: &[u32], g: [[Level; 2]; 8], n: usize) -> Verdict
 }
 
 // The number of each place's verdict, by 4 bits, the lowest that of place 0; that of a free place is 0.
-fn verdicts(numbers: &[u32], g: [[Level; 2]; 8]) -> u64
+fn verdicts(numbers: &Numbers, g: [[Level; 2]; 8]) -> u64
     requires { GridReady numbers.now g }
     ensures { (n : ℕ) → n < 16 → cause_at result n ≡ verdict_number (verdict (venue_of numbers.now) n (legging_in numbers.now n)) }
 {
@@ -139,16 +146,16 @@ fn verdicts(numbers: &[u32], g: [[Level; 2]; 8]) -> u64
 }
 
 // No legging order stands.
-pub fn none_stands(numbers: &[u32]) -> bool
-    requires { RightNumbers numbers.now }
+pub fn none_stands(numbers: &Numbers) -> bool
+    requires { Right numbers.now }
     ensures { result ≡ eqb (mask (venue_of numbers.now).legging) 0 }
 {
     places::mask_of(numbers) == 0
 }
 
 // All legging orders are tested against the same state, and the failures go together. The grid is made only where some legging order stands.
-fn remove_failing(numbers: &mut [u32], out: &mut [u8], at: usize) -> usize
-    requires { RightNumbers numbers.old }
+fn remove_failing(numbers: &mut Numbers, out: &mut [u8], at: usize) -> usize
+    requires { Right numbers.old }
     ensures result_after { stage (venue_of numbers.new) out.new result ≡ seen out.old at does remove (verdict (venue_of numbers.old)) (venue_of numbers.old) }
     ensures counts { SameCounts numbers.old numbers.new }
 {
@@ -164,8 +171,8 @@ fn remove_failing(numbers: &mut [u32], out: &mut [u8], at: usize) -> usize
 }
 
 // Each order shows again, and then the legging orders are tested.
-pub fn settle_all(numbers: &mut [u32], out: &mut [u8], at: usize) -> usize
-    requires { RightNumbers numbers.old }
+pub fn settle_all(numbers: &mut Numbers, out: &mut [u8], at: usize) -> usize
+    requires { Right numbers.old }
     ensures result_after { stage (venue_of numbers.new) out.new result ≡ seen out.old at does settle (venue_of numbers.old) }
     ensures counts { SameCounts numbers.old numbers.new }
 {
@@ -174,7 +181,7 @@ pub fn settle_all(numbers: &mut [u32], out: &mut [u8], at: usize) -> usize
 }
 
 // Every legging order but the one at place m passes its test.
-pub fn others_stand(numbers: &[u32], g: [[Level; 2]; 8], m: usize) -> bool
+pub fn others_stand(numbers: &Numbers, g: [[Level; 2]; 8], m: usize) -> bool
     requires { GridReady numbers.now g }
     ensures { result ≡ others_stand (venue_of numbers.now) m 0 (venue_of numbers.now).legging }
 {

@@ -1,25 +1,25 @@
 // Whether a venue that is held by value is sound. One that is sound is loaded on the way.
 #![tactic(auto)]
 
-ghost use Rattle.std.specs.Prelude.{◌≡◌, ◌&&◌, ltb, eqb, length};
+ghost use Rattle.std.specs.Prelude.{◌≡◌, ◌&&◌, ltb, eqb, length, ◌<◌};
 ghost use Rattle.rules.specs.Base.{all};
 ghost use Rattle.rules.specs.Places.{blank_legging};
 ghost use Rattle.rules.specs.Generation.{generations_of};
 ghost use Rattle.rules.specs.Standing.{has_leg};
 ghost use Rattle.rules.specs.Sound.{apart, legging_sound, leggings_sound, ids_distinct, follows};
-ghost use Rattle.places.specs.Layout.{size, legging_in, venue_of};
+ghost use Rattle.places.specs.Layout.{size, legging_in, venue_of, Figured, Right};
 ghost use Rattle.soundness.specs.Checked.{priced_on, on_increments, is_alone, eight, legging_in_range, has_home, orders_sound, Checked, Ready};
 ghost use Rattle.levels.specs.Requirements.{GridReady, GridPlaceReady};
-ghost use Rattle.places.specs.Requirements.{RightNumbers, FiguredNumbers, SeriesReady, IncrementReady, RightSeries};
+ghost use Rattle.places.specs.Requirements.{IncrementReady, RightSeries};
 
 use book::Found;
-use places::Level;
+use places::{Level, Numbers};
 use rules::{Complex, Legging, Regular, Venue, Verdict};
 
 // Orders beside one another -------------------------------------------------------------------
 
 // A regular order, where it rests, has a price on the increment in force.
-fn on_increment(numbers: &[u32], o: Regular) -> bool
+fn on_increment(numbers: &Numbers, o: Regular) -> bool
     requires { IncrementReady numbers.now o.series }
     ensures { result ≡ priced_on (venue_of numbers.now) o }
 {
@@ -31,8 +31,8 @@ fn on_increment(numbers: &[u32], o: Regular) -> bool
 }
 
 // Every resting regular order's price is a multiple of its series' increment in force.
-fn on_increments(numbers: &[u32]) -> bool
-    requires { FiguredNumbers numbers.now }
+fn on_increments(numbers: &Numbers) -> bool
+    requires { Figured numbers.now }
     ensures { result ≡ on_increments (venue_of numbers.now) }
 {
     let n = places::regulars_used(numbers);
@@ -48,8 +48,7 @@ fn on_increments(numbers: &[u32]) -> bool
 }
 
 // A regular order, where it rests, has its id alone.
-fn is_alone(numbers: &[u32], o: Regular) -> bool
-    requires { length numbers.now ≡ size }
+fn is_alone(numbers: &Numbers, o: Regular) -> bool
     ensures { result ≡ is_alone (venue_of numbers.now) o }
 {
     if o.quantity == 0 {
@@ -62,8 +61,7 @@ fn is_alone(numbers: &[u32], o: Regular) -> bool
 }
 
 // No id rests in both books.
-fn ids_distinct(numbers: &[u32]) -> bool
-    requires { length numbers.now ≡ size }
+fn ids_distinct(numbers: &Numbers) -> bool
     ensures { result ≡ ids_distinct (venue_of numbers.now) }
 {
     let n = places::regulars_used(numbers);
@@ -79,7 +77,7 @@ fn ids_distinct(numbers: &[u32]) -> bool
 }
 
 // A series is neither locked nor crossed, counting own prices.
-fn is_apart(numbers: &[u32], s: u8) -> bool
+fn is_apart(numbers: &Numbers, s: u8) -> bool
     requires { RightSeries numbers.now s }
     ensures { result ≡ apart (venue_of numbers.now) s }
 {
@@ -95,8 +93,8 @@ fn is_apart(numbers: &[u32], s: u8) -> bool
 }
 
 // No series is locked or crossed, counting own prices.
-fn all_apart(numbers: &[u32]) -> bool
-    requires { RightNumbers numbers.now }
+fn all_apart(numbers: &Numbers) -> bool
+    requires { Right numbers.now }
     ensures { result ≡ all (apart (venue_of numbers.now)) eight }
 {
     let mut s: u8 = 0;
@@ -162,8 +160,7 @@ fn has_leg(c: Complex, s: u8, d: u8) -> bool
 }
 
 // A legging order's parent rests, has this leg, is one to one, and has as much open.
-fn has_home(numbers: &[u32], l: Legging, s: u8, d: u8) -> bool
-    requires { length numbers.now ≡ size }
+fn has_home(numbers: &Numbers, l: Legging, s: u8, d: u8) -> bool
     ensures { result ≡ has_home (venue_of numbers.now) l s d }
 {
     let c = prices::parent_of(numbers, l);
@@ -177,7 +174,7 @@ fn has_home(numbers: &[u32], l: Legging, s: u8, d: u8) -> bool
 }
 
 // What stands at a legging place is sound.
-fn legging_sound(numbers: &[u32], g: [[Level; 2]; 8], n: usize) -> bool
+fn legging_sound(numbers: &Numbers, g: [[Level; 2]; 8], n: usize) -> bool
     requires { GridPlaceReady numbers.now g n }
     ensures { result ≡ legging_sound (venue_of numbers.now) n (legging_in numbers.now n) }
 {
@@ -198,7 +195,7 @@ fn legging_sound(numbers: &[u32], g: [[Level; 2]; 8], n: usize) -> bool
 }
 
 // Every legging place is sound.
-fn leggings_sound(numbers: &[u32], g: [[Level; 2]; 8]) -> bool
+fn leggings_sound(numbers: &Numbers, g: [[Level; 2]; 8]) -> bool
     requires { GridReady numbers.now g }
     ensures { result ≡ leggings_sound (venue_of numbers.now) 0 (venue_of numbers.now).legging }
 {
@@ -213,8 +210,8 @@ fn leggings_sound(numbers: &[u32], g: [[Level; 2]; 8]) -> bool
 }
 
 // Prices are on the increments, ids are distinct, no series is locked or crossed, and each legging order is sound.
-fn orders_sound(numbers: &[u32]) -> bool
-    requires { RightNumbers numbers.now }
+fn orders_sound(numbers: &Numbers) -> bool
+    requires { Right numbers.now }
     ensures { result ≡ orders_sound (venue_of numbers.now) }
 {
     if !on_increments(numbers) {
@@ -231,8 +228,7 @@ fn orders_sound(numbers: &[u32]) -> bool
 }
 
 // Whether a venue is sound; one that is stands in the slice afterwards.
-pub fn load_sound(numbers: &mut [u32], v: Venue) -> bool
-    requires { length numbers.old ≡ size }
+pub fn load_sound(numbers: &mut Numbers, v: Venue) -> bool
     ensures { Checked v result numbers.new }
 {
     if !sound_places::places_sound(v) {
@@ -243,8 +239,7 @@ pub fn load_sound(numbers: &mut [u32], v: Venue) -> bool
 }
 
 // A message's number is above that of each edition kept.
-fn follows_editions(numbers: &[u32], number: u32) -> bool
-    requires { length numbers.now ≡ size }
+fn follows_editions(numbers: &Numbers, number: u32) -> bool
     ensures { result ≡ all (λ e. ltb e.message number) (venue_of numbers.now).editions }
 {
     let mut i: usize = 0;
@@ -259,8 +254,8 @@ fn follows_editions(numbers: &[u32], number: u32) -> bool
 }
 
 // It is above that of each of a series' generations.
-fn follows_series(numbers: &[u32], s: usize, number: u32) -> bool
-    requires { SeriesReady numbers.now s }
+fn follows_series(numbers: &Numbers, s: usize, number: u32) -> bool
+    requires { s < 8 }
     ensures { result ≡ all (λ n. ltb n number) (generations_of (venue_of numbers.now) s) }
 {
     let mut k: usize = 0;
@@ -274,8 +269,7 @@ fn follows_series(numbers: &[u32], s: usize, number: u32) -> bool
 }
 
 // A message number is above that of every generation.
-fn follows_generations(numbers: &[u32], number: u32) -> bool
-    requires { length numbers.now ≡ size }
+fn follows_generations(numbers: &Numbers, number: u32) -> bool
     ensures { result ≡ all (λ g. all (λ n. ltb n number) g.messages) (venue_of numbers.now).generations }
 {
     let mut s: usize = 0;
@@ -289,8 +283,7 @@ fn follows_generations(numbers: &[u32], number: u32) -> bool
 }
 
 // A message's number is above that of each edition and of each generation kept.
-pub fn follows_kept(numbers: &[u32], number: u32) -> bool
-    requires { length numbers.now ≡ size }
+pub fn follows_kept(numbers: &Numbers, number: u32) -> bool
     ensures { result ≡ follows number (venue_of numbers.now) }
 {
     if !follows_editions(numbers, number) {
@@ -301,8 +294,7 @@ pub fn follows_kept(numbers: &[u32], number: u32) -> bool
 
 // Whether a venue is sound and the number of its next message, one more than `before`, above every edition's and generation's kept; one for which this
 // holds stands in the slice afterwards. Nothing kept has a number above the last that there is.
-pub fn load_ready(numbers: &mut [u32], venue: Venue, before: u32) -> bool
-    requires { length numbers.old ≡ size }
+pub fn load_ready(numbers: &mut Numbers, venue: Venue, before: u32) -> bool
     ensures { Ready venue before result numbers.new }
 {
     if !load_sound(numbers, venue) {

@@ -6,25 +6,21 @@ use Rattle.sweeps.specs.declared.Round.{Round}
 
 -- numbers without gaps, and the ids of the complex orders rise
 pub record DenseRising (b : List ℕ) : Type 0 where
-  pub whole : length b ≡ size
   pub dense : Dense b
   pub rising : Rising (venue_of b).complex
 
 -- right numbers, and count complex places in use from the first on
 pub record RightPlaces (b : List ℕ) (first count : ℕ) : Type 0 where
-  pub whole : length b ≡ size
   pub right : Right b
   pub in_use : first + count ≤ complexes_used b
 
 -- right numbers and the complex places of a round, which are in use
 pub record RightRound (b : List ℕ) (r : Round) : Type 0 where
-  pub whole : length b ≡ size
   pub right : Right b
   pub above : r.first + r.above ≤ complexes_used b
   pub others : r.others ≤ complexes_used b
 
 -- a whole slice and the complex places of a round, which are in use
 pub record RoundReady (b : List ℕ) (r : Round) : Type 0 where
-  pub whole : length b ≡ size
   pub above : r.first + r.above ≤ complexes_used b
   pub others : r.others ≤ complexes_used b

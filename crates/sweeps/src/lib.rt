@@ -8,13 +8,20 @@ ghost use Rattle.rules.specs.Complex.{going_round, examined, id_reached, each_of
 ghost use Rattle.rules.specs.Complex as complex;
 ghost use Rattle.records.specs.Seen.{seen};
 ghost use Rattle.records.specs.Stage.{stage, ◌does◌};
-ghost use Rattle.places.specs.Layout.{complexes_used, venue_of, SameCounts};
+ghost use Rattle.places.specs.Layout.{complexes_used, venue_of, SameCounts, Dense};
 ghost use Rattle.sweeps.specs.Round.{places_from, round_places};
-ghost use Rattle.places.specs.Requirements.{DenseNumbers};
 ghost use Rattle.sweeps.specs.Requirements.{DenseRising, RightPlaces, RightRound, RoundReady};
 
+use places::Numbers;
+
 // The orders at `count` places from `first` on are worked; at a freed place nothing is done.
-fn work_places(numbers: &mut [u32], first: usize, count: usize, out: &mut [u8], at: usize) -> usize
+fn work_places(
+    numbers: &mut Numbers,
+    first: usize,
+    count: usize,
+    out: &mut [u8],
+    at: usize,
+) -> usize
     requires { RightPlaces numbers.old first count }
     ensures result_after { stage (venue_of numbers.new) out.new result ≡ seen out.old at does each_of complex.work (places_from first count) (venue_of numbers.old) }
     ensures counts { SameCounts numbers.old numbers.new }
@@ -30,7 +37,7 @@ fn work_places(numbers: &mut [u32], first: usize, count: usize, out: &mut [u8], 
 
 // Generation for the orders at `count` places from `first` on.
 fn generate_places(
-    numbers: &mut [u32],
+    numbers: &mut Numbers,
     number: u32,
     first: usize,
     count: usize,
@@ -52,8 +59,8 @@ fn generate_places(
 
 // All resting complex orders are worked; then settling, once, and generation. Between messages they rest at the first places, in rising id, and none moves
 // till the end.
-pub fn sweep(numbers: &mut [u32], number: u32, out: &mut [u8], at: usize) -> usize
-    requires { DenseNumbers numbers.old }
+pub fn sweep(numbers: &mut Numbers, number: u32, out: &mut [u8], at: usize) -> usize
+    requires { Dense numbers.old }
     ensures result_after { stage (venue_of numbers.new) out.new result ≡ seen out.old at does complex.sweep number (venue_of numbers.old) }
     ensures counts { SameCounts numbers.old numbers.new }
 {
@@ -79,7 +86,7 @@ pub struct Swept {
 }
 
 // The first place whose order has an id above the one reached, where going round starts: ids rise with the places.
-fn round_start(numbers: &[u32]) -> usize
+fn round_start(numbers: &Numbers) -> usize
     requires { DenseRising numbers.now }
     ensures result_value { places_from result (complexes_used numbers.now - result) ++ places_from 0 result ≡ going_round (venue_of numbers.now) }
     ensures within { result ≤ complexes_used numbers.now }
@@ -98,7 +105,7 @@ fn round_start(numbers: &[u32]) -> usize
 }
 
 // The places of the n orders to look at, or of all where fewer rest.
-fn round_of(numbers: &[u32], n: u8) -> Round
+fn round_of(numbers: &Numbers, n: u8) -> Round
     requires { DenseRising numbers.now }
     ensures result_value { round_places result ≡ take n (going_round (venue_of numbers.now)) }
     ensures within { (result.first + result.above ≤ complexes_used numbers.now) × (result.others ≤ complexes_used numbers.now) }
@@ -129,7 +136,7 @@ fn round_of(numbers: &[u32], n: u8) -> Round
 }
 
 // The id at the last of these places; where there is none, the one reached before.
-fn last_looked(numbers: &[u32], r: Round) -> u32
+fn last_looked(numbers: &Numbers, r: Round) -> u32
     requires { RoundReady numbers.now r }
     ensures { result ≡ id_reached (venue_of numbers.now) (round_places r) }
 {
@@ -145,7 +152,7 @@ fn last_looked(numbers: &[u32], r: Round) -> u32
 }
 
 // The orders to look at are worked, in the order of the round.
-fn work_round(numbers: &mut [u32], r: Round, out: &mut [u8], at: usize) -> usize
+fn work_round(numbers: &mut Numbers, r: Round, out: &mut [u8], at: usize) -> usize
     requires { RightRound numbers.old r }
     ensures result_after { stage (venue_of numbers.new) out.new result ≡ seen out.old at does each_of complex.work (round_places r) (venue_of numbers.old) }
     ensures counts { SameCounts numbers.old numbers.new }
@@ -155,7 +162,7 @@ fn work_round(numbers: &mut [u32], r: Round, out: &mut [u8], at: usize) -> usize
 }
 
 // Generation for them, in that order.
-fn generate_round(numbers: &mut [u32], number: u32, r: Round, out: &mut [u8], at: usize) -> usize
+fn generate_round(numbers: &mut Numbers, number: u32, r: Round, out: &mut [u8], at: usize) -> usize
     requires { RightRound numbers.old r }
     ensures result_after { stage (venue_of numbers.new) out.new result ≡ seen out.old at does each_of (generate number) (round_places r) (venue_of numbers.old) }
     ensures counts { SameCounts numbers.old numbers.new }
@@ -166,7 +173,7 @@ fn generate_round(numbers: &mut [u32], number: u32, r: Round, out: &mut [u8], at
 
 // A sweep of at most n resting orders, which starts after the last id that one looked at: how many it looks at is told first. Its places stay
 // as they are till its end, whatever becomes of the orders there.
-pub fn limited_sweep(numbers: &mut [u32], number: u32, n: u8, out: &mut [u8], at: usize) -> Swept
+pub fn limited_sweep(numbers: &mut Numbers, number: u32, n: u8, out: &mut [u8], at: usize) -> Swept
     requires { DenseRising numbers.old }
     ensures at_after { stage (venue_of numbers.new) out.new result.at ≡ seen out.old at does complex.limited_sweep number n (venue_of numbers.old) }
     ensures counts { SameCounts numbers.old numbers.new }

@@ -2,24 +2,25 @@
 // Each function says in one equation the venue that it leaves and all that it writes: those of its definition.
 #![tactic(auto)]
 
-ghost use Rattle.std.specs.Prelude.{◌≡◌, ◌≤◌, min, nat_abs, length};
+ghost use Rattle.std.specs.Prelude.{◌≡◌, ◌≤◌, min, nat_abs, length, ◌<◌};
 ghost use Rattle.rules.specs.Trading.{fill_complex, trade_with, pair_off};
 ghost use Rattle.rules.specs.Trading as trading;
 ghost use Rattle.rules.specs.Order as order;
 ghost use Rattle.rules.specs.Complex.{complex_place, cancel_regular, cancel_complex};
 ghost use Rattle.records.specs.Seen.{seen};
 ghost use Rattle.records.specs.Stage.{stage, ◌does◌};
-ghost use Rattle.places.specs.Layout.{size, venue_of, SameCounts};
+ghost use Rattle.places.specs.Layout.{size, venue_of, SameCounts, Right, complexes_used, regulars_used};
 ghost use Rattle.trades.specs.Hits.{pairing_of};
-ghost use Rattle.places.specs.Requirements.{RightNumbers, RegularReady, ComplexReady, RegularsReady, RightRegular};
+ghost use Rattle.places.specs.Requirements.{RegularsReady, RightRegular};
 
 use arithmetic::opposite_of;
 use book::{Found, Pick};
+use places::Numbers;
 use rules::{Cause, Legging};
 
 // A taker of a side trades k contracts with the regular order at place j.
 fn trade_with(
-    numbers: &mut [u32],
+    numbers: &mut Numbers,
     taker: u32,
     side: u8,
     j: usize,
@@ -27,7 +28,7 @@ fn trade_with(
     out: &mut [u8],
     at: usize,
 ) -> usize
-    requires { RegularReady numbers.old j }
+    requires { j < regulars_used numbers.old }
     ensures result_after { stage (venue_of numbers.new) out.new result ≡ seen out.old at does trade_with taker side j k (venue_of numbers.old) }
     ensures counts { SameCounts numbers.old numbers.new }
 {
@@ -48,7 +49,7 @@ pub fn at_most(q: u32, n: u64) -> u32
 
 // A taker of a side takes contracts that are shown at a price in a series, by id, until it has all or none are left there.
 pub fn trade_at_price(
-    numbers: &mut [u32],
+    numbers: &mut Numbers,
     taker: u32,
     series: u8,
     side: u8,
@@ -57,7 +58,7 @@ pub fn trade_at_price(
     out: &mut [u8],
     at: usize,
 ) -> usize
-    requires { RightNumbers numbers.old }
+    requires { Right numbers.old }
     ensures result_after { stage (venue_of numbers.new) out.new result ≡ seen out.old at does trading.trade_at_price quantity taker series side price quantity (venue_of numbers.old) }
     ensures counts { SameCounts numbers.old numbers.new }
 {
@@ -77,8 +78,7 @@ pub fn trade_at_price(
 }
 
 // The complex order at place i, if there is one, is filled for k units.
-fn fill_pair(numbers: &mut [u32], i: usize, k: u32)
-    requires { length numbers.old ≡ size }
+fn fill_pair(numbers: &mut Numbers, i: usize, k: u32)
     ensures numbers_after { venue_of numbers.new ≡ fill_complex i k (venue_of numbers.old) }
     ensures counts { SameCounts numbers.old numbers.new }
 {
@@ -90,7 +90,7 @@ fn fill_pair(numbers: &mut [u32], i: usize, k: u32)
 
 // The complex order of this id, at place i, pairs k units at a net; its legging orders go.
 pub fn pair_off(
-    numbers: &mut [u32],
+    numbers: &mut Numbers,
     i: usize,
     id: u32,
     net: i64,
@@ -98,7 +98,6 @@ pub fn pair_off(
     out: &mut [u8],
     at: usize,
 ) -> usize
-    requires { length numbers.old ≡ size }
     ensures result_after { stage (venue_of numbers.new) out.new result ≡ seen out.old at does pair_off i id net k (venue_of numbers.old) }
     ensures counts { SameCounts numbers.old numbers.new }
 {
@@ -118,8 +117,8 @@ pub struct Pairing {
 }
 
 // What a hit of a legging order pairs.
-fn pairing_of(numbers: &[u32], l: Legging, series: u8, side: u8) -> Pairing
-    requires { RightNumbers numbers.now }
+fn pairing_of(numbers: &Numbers, l: Legging, series: u8, side: u8) -> Pairing
+    requires { Right numbers.now }
     ensures value { result ≡ pairing_of (venue_of numbers.now) l series side }
     ensures bounded { nat_abs result.net ≤ 2190433320450 }
 {
@@ -139,8 +138,7 @@ fn pairing_of(numbers: &[u32], l: Legging, series: u8, side: u8) -> Pairing
 }
 
 // The place of the resting complex order with an id; 32 where there is none.
-fn place_or_end(numbers: &[u32], id: u32) -> usize
-    requires { length numbers.now ≡ size }
+fn place_or_end(numbers: &Numbers, id: u32) -> usize
     ensures { result ≡ complex_place (venue_of numbers.now) id }
 {
     let found = book::complex_place(numbers, id);
@@ -151,7 +149,7 @@ fn place_or_end(numbers: &[u32], id: u32) -> usize
 }
 
 // The order at place i hits a legging order for k contracts: the trade, then the pairing.
-pub fn hit(numbers: &mut [u32], i: usize, l: Legging, k: u32, out: &mut [u8], at: usize) -> usize
+pub fn hit(numbers: &mut Numbers, i: usize, l: Legging, k: u32, out: &mut [u8], at: usize) -> usize
     requires { RightRegular numbers.old i }
     ensures result_after { stage (venue_of numbers.new) out.new result ≡ seen out.old at does order.hit i l k (venue_of numbers.old) }
     ensures counts { SameCounts numbers.old numbers.new }
@@ -168,7 +166,7 @@ pub fn hit(numbers: &mut [u32], i: usize, l: Legging, k: u32, out: &mut [u8], at
 }
 
 // The order at place i trades k contracts with the regular order at place j.
-pub fn meet(numbers: &mut [u32], i: usize, j: usize, k: u32, out: &mut [u8], at: usize) -> usize
+pub fn meet(numbers: &mut Numbers, i: usize, j: usize, k: u32, out: &mut [u8], at: usize) -> usize
     requires { RegularsReady numbers.old i j }
     ensures result_after { stage (venue_of numbers.new) out.new result ≡ seen out.old at does order.meet i j k (venue_of numbers.old) }
     ensures counts { SameCounts numbers.old numbers.new }
@@ -179,8 +177,8 @@ pub fn meet(numbers: &mut [u32], i: usize, j: usize, k: u32, out: &mut [u8], at:
 }
 
 // The regular order at place i is cancelled.
-pub fn cancel_regular(numbers: &mut [u32], i: usize, out: &mut [u8], at: usize) -> usize
-    requires { RegularReady numbers.old i }
+pub fn cancel_regular(numbers: &mut Numbers, i: usize, out: &mut [u8], at: usize) -> usize
+    requires { i < regulars_used numbers.old }
     ensures result_after { stage (venue_of numbers.new) out.new result ≡ seen out.old at does cancel_regular i (venue_of numbers.old) }
     ensures counts { SameCounts numbers.old numbers.new }
 {
@@ -190,8 +188,8 @@ pub fn cancel_regular(numbers: &mut [u32], i: usize, out: &mut [u8], at: usize) 
 }
 
 // The complex order at place i is cancelled, and its legging orders go.
-pub fn cancel_complex(numbers: &mut [u32], i: usize, out: &mut [u8], at: usize) -> usize
-    requires { ComplexReady numbers.old i }
+pub fn cancel_complex(numbers: &mut Numbers, i: usize, out: &mut [u8], at: usize) -> usize
+    requires { i < complexes_used numbers.old }
     ensures result_after { stage (venue_of numbers.new) out.new result ≡ seen out.old at does cancel_complex i (venue_of numbers.old) }
     ensures counts { SameCounts numbers.old numbers.new }
 {

@@ -4,11 +4,11 @@
 ghost use Rattle.std.specs.Prelude.{◌≡◌, length};
 ghost use Rattle.rules.specs.Words.{fresh_venue, with_legging, with_series, with_generations, with_reached};
 ghost use Rattle.rules.specs.Step.{mask};
-ghost use Rattle.places.specs.Layout.{size, venue_of, bit_of};
+ghost use Rattle.places.specs.Layout.{size, venue_of, bit_of, ComplexesPlaced, RegularsPlaced, Loadable};
 ghost use Rattle.places.specs.Layout.{SameCounts};
 ghost use Rattle.places.specs.Layout.{RegularsLoaded, ComplexesLoaded, EditionsLoaded, BesideCounted, Laid, Loaded};
-ghost use Rattle.places.specs.Requirements.{LoadReady, RegularsLoadReady, ComplexesLoadReady};
 
+use places::Numbers;
 use rules::{Complex, Edition, Generations, Legging, Listed, Regular, Venue};
 
 // A fresh venue -------------------------------------------------------------------------------
@@ -30,8 +30,8 @@ pub fn fresh_numbers() -> [u32; places::SIZE]
 // A venue's numbers, part by part -------------------------------------------------------------
 
 // Places are read until the first free one.
-fn load_regulars(numbers: &mut [u32], l: [Regular; 128])
-    requires { RegularsLoadReady numbers.old l }
+fn load_regulars(numbers: &mut Numbers, l: [Regular; 128])
+    requires { RegularsPlaced l }
     ensures { RegularsLoaded numbers.old l numbers.new }
 {
     let mut i: usize = 0;
@@ -48,8 +48,8 @@ fn load_regulars(numbers: &mut [u32], l: [Regular; 128])
 }
 
 // Places are read until the first free one.
-fn load_complexes(numbers: &mut [u32], l: [Complex; 32])
-    requires { ComplexesLoadReady numbers.old l }
+fn load_complexes(numbers: &mut Numbers, l: [Complex; 32])
+    requires { ComplexesPlaced l }
     ensures { ComplexesLoaded numbers.old l numbers.new }
 {
     let mut i: usize = 0;
@@ -66,8 +66,7 @@ fn load_complexes(numbers: &mut [u32], l: [Complex; 32])
 }
 
 // The legging orders written among the numbers.
-fn load_leggings(numbers: &mut [u32], l: [Legging; 16])
-    requires { length numbers.old ≡ size }
+fn load_leggings(numbers: &mut Numbers, l: [Legging; 16])
     ensures numbers_after { venue_of numbers.new ≡ with_legging (venue_of numbers.old) l }
     ensures counts { SameCounts numbers.old numbers.new }
 {
@@ -80,8 +79,7 @@ fn load_leggings(numbers: &mut [u32], l: [Legging; 16])
 }
 
 // The status and away prices of every series written among the numbers.
-fn load_series(numbers: &mut [u32], l: [Listed; 8])
-    requires { length numbers.old ≡ size }
+fn load_series(numbers: &mut Numbers, l: [Listed; 8])
     ensures numbers_after { venue_of numbers.new ≡ with_series (venue_of numbers.old) l }
     ensures counts { SameCounts numbers.old numbers.new }
 {
@@ -94,8 +92,7 @@ fn load_series(numbers: &mut [u32], l: [Listed; 8])
 }
 
 // The editions written among the numbers.
-fn load_editions(numbers: &mut [u32], l: [Edition; 32])
-    requires { length numbers.old ≡ size }
+fn load_editions(numbers: &mut Numbers, l: [Edition; 32])
     ensures { EditionsLoaded numbers.old l numbers.new }
 {
     let mut i: usize = 0;
@@ -107,8 +104,7 @@ fn load_editions(numbers: &mut [u32], l: [Edition; 32])
 }
 
 // The generations of each series, and the last id that a limited sweep looked at.
-fn load_traffic(numbers: &mut [u32], l: [Generations; 8], reached: u32)
-    requires { length numbers.old ≡ size }
+fn load_traffic(numbers: &mut Numbers, l: [Generations; 8], reached: u32)
     ensures { venue_of numbers.new ≡ with_reached (with_generations (venue_of numbers.old) l) reached }
 {
     let mut i: usize = 0;
@@ -131,8 +127,7 @@ fn bit(l: Legging) -> u16
 }
 
 // The mask of the legging places, counted.
-fn count_mask(numbers: &[u32]) -> u16
-    requires { length numbers.now ≡ size }
+fn count_mask(numbers: &Numbers) -> u16
     ensures { result ≡ mask (venue_of numbers.now).legging }
 {
     let mut m: u16 = 0;
@@ -146,8 +141,7 @@ fn count_mask(numbers: &[u32]) -> u16
 }
 
 // What is kept beside the venue, but for the levels: no place is known to be held, mask and figures are counted, and there is no mark.
-fn count_beside(numbers: &mut [u32])
-    requires { length numbers.old ≡ size }
+fn count_beside(numbers: &mut Numbers)
     ensures { BesideCounted numbers.old numbers.new }
 {
     let mask = count_mask(numbers);
@@ -159,8 +153,8 @@ fn count_beside(numbers: &mut [u32])
 }
 
 // A venue's numbers, and what is kept beside them; the levels stay as they are.
-pub fn load(numbers: &mut [u32], v: Venue)
-    requires { LoadReady numbers.old v }
+pub fn load(numbers: &mut Numbers, v: Venue)
+    requires { Loadable v }
     ensures { Laid v numbers.new }
 {
     let generations = v.generations;

@@ -15,10 +15,11 @@ ghost use Rattle.levels.specs.Requirements.{TakenFigured};
 ghost use Rattle.places.specs.Requirements.{RightComplex};
 
 use levels::TakenLevels;
+use places::Numbers;
 use rules::Complex;
 
 // The best regular prices a and p that c would take net to its limit or less, and that net is in band.
-fn can_leg_in(numbers: &[u32], taken: TakenLevels, c: Complex, a: u32, p: u32) -> bool
+fn can_leg_in(numbers: &Numbers, taken: TakenLevels, c: Complex, a: u32, p: u32) -> bool
     requires { TakenFigured numbers.now taken c }
     ensures { result ≡ legs_in (venue_of numbers.now) c a p }
 {
@@ -48,7 +49,7 @@ fn contracts(ratio: u8, k: u32) -> u64
 
 // k units of the order at place i, at prices a and p: the first leg's trades, the second's, the pair.
 pub fn leg_in(
-    numbers: &mut [u32],
+    numbers: &mut Numbers,
     i: usize,
     a: u32,
     p: u32,
@@ -93,7 +94,13 @@ fn units_in(taken: TakenLevels, c: Complex) -> u32
 }
 
 // The order at place i legs in while the best prices allow it and fill a unit, in at most `quantity` turns.
-pub fn leg_in_all(numbers: &mut [u32], i: usize, quantity: u32, out: &mut [u8], at: usize) -> usize
+pub fn leg_in_all(
+    numbers: &mut Numbers,
+    i: usize,
+    quantity: u32,
+    out: &mut [u8],
+    at: usize,
+) -> usize
     requires { RightComplex numbers.old i }
     ensures result_after { stage (venue_of numbers.new) out.new result ≡ seen out.old at does repeat quantity (leg_in_turn i) (venue_of numbers.old) }
     ensures counts { SameCounts numbers.old numbers.new }
@@ -119,7 +126,7 @@ pub fn leg_in_all(numbers: &mut [u32], i: usize, quantity: u32, out: &mut [u8], 
 }
 
 // The order at place i crosses, touches and legs in, if neither of its series is closed. At a free place nothing is done.
-pub fn work(numbers: &mut [u32], i: usize, out: &mut [u8], at: usize) -> usize
+pub fn work(numbers: &mut Numbers, i: usize, out: &mut [u8], at: usize) -> usize
     requires { RightComplex numbers.old i }
     ensures result_after { stage (venue_of numbers.new) out.new result ≡ seen out.old at does complex.work i (venue_of numbers.old) }
     ensures counts { SameCounts numbers.old numbers.new }

@@ -6,7 +6,7 @@ use Rattle.answers.proofs.Answering.{refuse-law}
 use Rattle.answers.proofs.refuse.Goals as goal
 
 pub mask_of-mask-requires : goal.mask_of-mask-requires
-mask_of-mask-requires c = record { whole = c.requires.whole; right = c.requires.dense.right }
+mask_of-mask-requires c = c.requires.right
 
 pub returns : goal.returns
 unfolding answered
@@ -15,5 +15,5 @@ returns c = record {
   staged = refuse-law (venue_of c.args.numbers.now) _ _ _ _ _ _ _
       c.mask_of-mask.ensures c.count_of-count.ensures
       c.emit_answer-written.ensures;
-  dense = c.requires.dense;
+  dense = c.requires;
 }

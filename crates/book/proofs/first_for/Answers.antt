@@ -33,7 +33,7 @@ regular_at-o-requires c = let w = regulars-few c.args.numbers.now in search rule
 
 pub returns-then-shows_for : goal.returns-then-shows_for
 returns-then-shows_for c =
-    for-at c.args.numbers.now c.requires.right c.args.series c.args.side c.args.price _ _ (omega arith) c.regular_at-o.ensures
+    for-at c.args.numbers.now c.requires c.args.series c.args.side c.args.price _ _ (omega arith) c.regular_at-o.ensures
     (sym c.shows_for.ensures ∙ c.if-shows_for.true) c.loop-k.invariant.1
 
 pub loop-k-preserved : goal.loop-k-preserved
@@ -45,4 +45,4 @@ loop-k-preserved c = (
 
 pub returns : goal.returns
 returns c =
-    for-none c.args.numbers.now c.requires.right c.args.series c.args.side c.args.price (λ j q. c.loop-k.invariant.1 j (omega arith))
+    for-none c.args.numbers.now c.requires c.args.series c.args.side c.args.price (λ j q. c.loop-k.invariant.1 j (omega arith))

@@ -4,4 +4,4 @@ use Rattle.book.proofs.first_met.Goals as goal
 
 pub first_shown-requires : goal.first_shown-requires
 first_shown-requires c = let s = c.requires in
-    record { whole = s.whole; right = s.right; series = s.series; shows = sym c.none_shows_again.ensures ∙ c.if-none_shows_again.true }
+    record { right = s.right; series = s.series; shows = sym c.none_shows_again.ensures ∙ c.if-none_shows_again.true }

@@ -21,14 +21,13 @@ returns-then-not-limits_meet c = cross-apart _ c.args.c c.args.m
     (off _ _ c.limits_meet.ensures c.if-not-limits_meet.true-raw)
 
 pub taken_at-by_taker-requires : goal.taken_at-by_taker-requires
-taken_at-by_taker-requires c = let p = c.requires in record { whole = p.whole; right = p.right; legs = p.legs }
+taken_at-by_taker-requires c = let p = c.requires in record { right = p.right; legs = p.legs }
 
 pub in_band-requires : goal.in_band-requires
 in_band-requires c =
     let p = c.requires in
     let u = c.net_against-paid in
     record {
-      whole = p.whole;
       taken = c.taken_at-by_taker.ensures;
       legs = p.legs;
       bound = omega (arith, ap nat_abs (back {z = u.result} (record { sfits = u.type_inv })), u.ensures.1);
@@ -47,14 +46,13 @@ returns-then-not-in_band c =
 
 pub taken_at-by_maker-requires : goal.taken_at-by_maker-requires
 taken_at-by_maker-requires c = let p = c.requires in
-    record { whole = p.whole; right = p.right; legs = p.others }
+    record { right = p.right; legs = p.others }
 
 pub in_band-requires-2 : goal.in_band-requires-2
 in_band-requires-2 c =
     let p = c.requires in
     let w = c.limit_of-limit in
     record {
-      whole = p.whole;
       taken = c.taken_at-by_maker.ensures;
       legs = p.others;
       bound = omega (arith, ap nat_abs (back {z = w.result} (record { sfits = w.type_inv })), w.ensures.1);

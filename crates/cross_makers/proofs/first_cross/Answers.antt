@@ -24,7 +24,7 @@ loop-i-init c =
 
 pub cross_key_at-requires : goal.cross_key_at-requires
 cross_key_at-requires c = let z = complexes-few c.args.numbers.now in
-    record { whole = c.requires.whole; place = omega arith }
+    omega arith
 
 pub loop-i-preserved-then-not-is_either : goal.loop-i-preserved-then-not-is_either
 loop-i-preserved-then-not-is_either c =
@@ -39,11 +39,11 @@ loop-i-preserved-then-not-is_either c =
 
 pub complex_at-m-requires : goal.complex_at-m-requires
 complex_at-m-requires c = let z = complexes-few c.args.numbers.now in
-    record { whole = c.requires.whole; place = omega arith }
+    omega arith
 
 pub can_cross-requires : goal.can_cross-requires
 can_cross-requires c = let p = c.requires in
-    record { whole = p.whole; right = p.right; legs = p.legs; others = subst LegsIn (sym c.complex_at-m.ensures) (legs-in c.args.numbers.now _) }
+    record { right = p.right; legs = p.legs; others = subst LegsIn (sym c.complex_at-m.ensures) (legs-in c.args.numbers.now _) }
 
 pub loop-i-preserved-then-not-can_cross : goal.loop-i-preserved-then-not-can_cross
 loop-i-preserved-then-not-can_cross c =

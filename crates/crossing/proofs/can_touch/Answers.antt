@@ -14,7 +14,6 @@ best_own-first-requires c =
     let p = c.requires in
     let a = c.args in
     record {
-      whole = p.whole;
       best = first-best (venue_of a.numbers.now) a.taken a.c p.taken _ c.opposite_of.ensures;
       series = p.legs.first;
       side = rw c.opposite_of.ensures (opposite-in _);
@@ -29,7 +28,6 @@ best_own-second-requires c =
     let p = c.requires in
     let a = c.args in
     record {
-      whole = p.whole;
       best = second-best (venue_of a.numbers.now) a.taken a.c p.taken _ c.opposite_of-2.ensures;
       series = p.legs.second;
       side = rw c.opposite_of-2.ensures (opposite-in _);

@@ -16,16 +16,11 @@ use Rattle.crossing.proofs.cross.Goals as goal
 
 pub complex_at-c-requires : goal.complex_at-c-requires
 complex_at-c-requires c = let z = complexes-few c.args.numbers.now in
-    record { whole = c.requires.whole; place = omega (arith, c.requires.first) }
+    omega (arith, c.requires.first)
 
 pub complex_at-m-requires : goal.complex_at-m-requires
 complex_at-m-requires c = let z = complexes-few c.args.numbers.now in
-    record { whole = c.requires.whole; place = omega (arith, c.requires.second) }
-
-pub remove_of-requires : goal.remove_of-requires
-remove_of-requires c = c.remove_of-gone.auto.numbers
-    ∙ c.fill_complex-2.auto.numbers ∙ c.fill_complex.auto.numbers
-    ∙ c.requires.whole
+    omega (arith, c.requires.second)
 
 pub returns : goal.returns
 returns c = record {

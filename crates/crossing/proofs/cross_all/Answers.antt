@@ -20,20 +20,14 @@ use Rattle.crossing.proofs.cross_all.Goals as goal
 
 pub complex_at-taker-requires : goal.complex_at-taker-requires
 complex_at-taker-requires c = let z = complexes-few c.args.numbers.now in
-    record { whole = c.requires.whole; place = omega (arith, c.requires.in_use) }
+    omega (arith, c.requires.in_use)
 
 pub loop-turns-init : goal.loop-turns-init
-loop-turns-init c = doing-start _ _ _ _ _ c.requires.whole (ap (λ (x : Complex). repeat x.quantity (cross_turn c.args.i) (venue_of c.args.numbers.now))
+loop-turns-init c = doing-start _ _ _ _ _ c.told-numbers (ap (λ (x : Complex). repeat x.quantity (cross_turn c.args.i) (venue_of c.args.numbers.now))
     (c.complex_at-taker.ensures ∙ sym (complex-at c.args.numbers.now c.args.i c.requires.in_use)))
 
 pub complex_at-c-requires : goal.complex_at-c-requires
-complex_at-c-requires c = let z = complexes-few c.loop-turns.numbers in record {
-  whole = c.loop-turns.invariant.whole;
-  place = omega (arith, c.loop-turns.invariant.counts.complexes, c.requires.in_use);
-}
-
-pub shape_of-numbers-then-c-eq0 : goal.shape_of-numbers-then-c-eq0
-shape_of-numbers-then-c-eq0 c = c.loop-turns.invariant.whole ∙ sym c.requires.whole
+complex_at-c-requires c = let z = complexes-few c.loop-turns.numbers in omega (arith, c.loop-turns.invariant.counts.complexes, c.requires.in_use)
 
 pub shape_of-out-then-c-eq0 : goal.shape_of-out-then-c-eq0
 shape_of-out-then-c-eq0 c = doing-room c.loop-turns.invariant
@@ -55,16 +49,11 @@ returns-then-c-eq0 c = record {
 
 pub first_cross-found-requires : goal.first_cross-found-requires
 first_cross-found-requires c = record {
-  whole = c.loop-turns.invariant.whole;
   right = c.loop-turns.invariant.counts.right
       c.requires.right;
   legs = subst LegsIn (sym c.complex_at-c.ensures)
       (legs-in c.loop-turns.numbers c.args.i);
 }
-
-pub shape_of-numbers-in_default : goal.shape_of-numbers-in_default
-shape_of-numbers-in_default c = c.loop-turns.invariant.whole
-    ∙ sym c.requires.whole
 
 pub shape_of-out-in_default : goal.shape_of-out-in_default
 shape_of-out-in_default c = doing-room c.loop-turns.invariant
@@ -90,7 +79,6 @@ returns-in_default c = record {
 pub cross-pos-requires : goal.cross-pos-requires
 unfolding picked_of
 cross-pos-requires c = record {
-  whole = c.loop-turns.invariant.whole;
   first = omega (
     arith,
     c.loop-turns.invariant.counts.complexes,
@@ -122,11 +110,8 @@ loop-turns-preserved c = doing-turn
     c.if-c-eq0.false _ _ _
     (sym (ap picked_of c.in-At.is)
     ∙ c.first_cross-found.ensures)
-    c.lesser.ensures)) c.cross-pos.auto.numbers
+    c.lesser.ensures)) (omega arith)
     c.cross-pos.ensures.result_after c.cross-pos.ensures.counts
-
-pub shape_of-numbers : goal.shape_of-numbers
-shape_of-numbers c = c.loop-turns.invariant.whole ∙ sym c.requires.whole
 
 pub shape_of-out : goal.shape_of-out
 shape_of-out c = doing-room c.loop-turns.invariant

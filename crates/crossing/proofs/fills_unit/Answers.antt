@@ -6,7 +6,7 @@ use Rattle.crossing.proofs.fills_unit.Goals as goal
 pub own_size-first-requires : goal.own_size-first-requires
 own_size-first-requires c =
     let p = c.requires in
-    record { whole = p.whole; level = rw c.opposite_of.ensures p.taken.first; series = p.legs.first; side = rw c.opposite_of.ensures (opposite-in _) }
+    record { level = rw c.opposite_of.ensures p.taken.first; series = p.legs.first; side = rw c.opposite_of.ensures (opposite-in _) }
 
 pub returns-then-first-c : goal.returns-then-first-c
 returns-then-first-c c =
@@ -15,7 +15,7 @@ returns-then-first-c c =
 pub own_size-second-requires : goal.own_size-second-requires
 own_size-second-requires c =
     let p = c.requires in
-    record { whole = p.whole; level = rw c.opposite_of-2.ensures p.taken.second; series = p.legs.second; side = rw c.opposite_of-2.ensures (opposite-in _) }
+    record { level = rw c.opposite_of-2.ensures p.taken.second; series = p.legs.second; side = rw c.opposite_of-2.ensures (opposite-in _) }
 
 pub returns : goal.returns
 returns c =

@@ -11,18 +11,17 @@ use Rattle.crossing.proofs.touch.Goals as goal
 
 pub complex_at-c-requires : goal.complex_at-c-requires
 complex_at-c-requires c = let z = complexes-few c.args.numbers.now in
-    record { whole = c.requires.whole; place = omega (arith, c.requires.in_use) }
+    omega (arith, c.requires.in_use)
 
 pub taken_at-taken-requires : goal.taken_at-taken-requires
 taken_at-taken-requires c =
     let a = c.args in
     let p = c.requires in
-    record { whole = p.whole; right = p.right; legs = subst LegsIn (sym c.complex_at-c.ensures) (legs-in a.numbers.now a.i) }
+    record { right = p.right; legs = subst LegsIn (sym c.complex_at-c.ensures) (legs-in a.numbers.now a.i) }
 
 pub can_touch-requires : goal.can_touch-requires
 can_touch-requires c =
     let a = c.args in record {
-      whole = c.requires.whole;
       taken = c.taken_at-taken.ensures;
       legs = subst LegsIn (sym c.complex_at-c.ensures) (legs-in a.numbers.now a.i);
     }
@@ -33,7 +32,6 @@ returns-then-not-can_touch c =
 
 pub touch_cause-cause-requires : goal.touch_cause-cause-requires
 touch_cause-cause-requires c = (let a = c.args in record {
-  whole = c.requires.whole;
   taken = c.taken_at-taken.ensures;
   legs = subst LegsIn (sym c.complex_at-c.ensures) (legs-in a.numbers.now a.i);
 })
@@ -42,7 +40,7 @@ pub remove_at-requires : goal.remove_at-requires
 unfolding place_of opposite
 remove_at-requires c =
     let z = subst LegsIn (sym c.complex_at-c.ensures) (legs-in c.args.numbers.now c.args.i) in
-    record { whole = c.requires.whole; first = omega arith; second = omega arith }
+    record { first = omega arith; second = omega arith }
 
 pub returns : goal.returns
 returns c =

@@ -8,7 +8,7 @@ returns-then-done c = turn-no-number c.args.t c.args.messages.now c.args.numbers
     c.requires.ahead c.requires.within c.requires.dense c.requires.sound c.if-done.true
 
 pub try_step-r-requires : goal.try_step-r-requires
-try_step-r-requires c = record { whole = c.requires.slice; dense = c.requires.dense; sound = c.requires.sound.venue }
+try_step-r-requires c = record { dense = c.requires.dense; sound = c.requires.sound.venue }
 
 pub returns-then-report-pos : goal.returns-then-report-pos
 returns-then-report-pos c = turn-no-room c.args.t c.args.messages.now c.args.numbers.now c.try_step-r.new.numbers

@@ -38,7 +38,7 @@ step-r-requires c =
     sym (ready-next c.args.venue c.args.before _ (sym c.load_sound.ensures.answer ∙ t) (c.load_sound.ensures.loaded t) _ c.follows_kept.ensures).answer
     ∙ c.if-not-follows_kept.false in
     let l = stands in
-    record { whole = search rules; dense = l.dense; sound = laid-sound _ _ (and_l _ _ passed) l.venue }
+    record { dense = l.dense; sound = laid-sound _ _ (and_l _ _ passed) l.venue }
 
 pub returns-then-report-written : goal.returns-then-report-written
 returns-then-report-written c =

@@ -18,15 +18,12 @@ loop-numbers-init c = running-start _ _ _ (search rules) (search rules)
 pub message_head-head-requires : goal.message_head-head-requires
 message_head-head-requires c = tt
 
-pub slice_bounds-advance-end : goal.slice_bounds-advance-end
-slice_bounds-advance-end c = let e = c.loop-numbers.invariant.sofar.slice in search rules
-
 -- where the head is not `End`, a message or a torn one stands ahead
 pub advance-t-requires : goal.advance-t-requires
 advance-t-requires c =
     let ahead : c.loop-numbers.t.at < length c.args.messages.now = at_some _ _ (λ e. c.in_default.not-End (c.message_head-head.ensures ∙ e)) in
     let g = c.loop-numbers.invariant in let w = g.sofar.within in let e = g.sofar.len in
-    record { slice = g.sofar.slice; dense = g.dense; sound = g.sound; ahead = ahead; within = omega arith; headed = c.message_head-head.ensures }
+    record { dense = g.dense; sound = g.sound; ahead = ahead; within = omega arith; headed = c.message_head-head.ensures }
 
 pub loop-numbers-smaller : goal.loop-numbers-smaller
 loop-numbers-smaller c = let v = c.advance-t.ensures.moved c.if-t-ne0.false in let p = v.0 in let q = v.1 in omega arith
@@ -35,37 +32,10 @@ pub loop-numbers-preserved : goal.loop-numbers-preserved
 loop-numbers-preserved c =
     running-again _ _ _ _ _ c.loop-numbers.invariant c.advance-t.result c.advance-t.new.numbers c.advance-t.new.report
     (at_some _ _ (λ e. c.in_default.not-End (c.message_head-head.ensures ∙ e)))
-    c.advance-t.auto.numbers c.advance-t.auto.report c.advance-t.ensures c.if-t-ne0.false
+    (omega arith) c.advance-t.auto.report c.advance-t.ensures c.if-t-ne0.false
 
 pub zero_from-requires : goal.zero_from-requires
 zero_from-requires c = tt
-
--- `ended`: either way out of the loop
-pub slice_bounds-venue_of-end : goal.slice_bounds-venue_of-end
-slice_bounds-venue_of-end c =
-    let ended : RunEnded c.args.messages.now c.args.report.now c.match-head.numbers c.match-head.report c.match-head.t =
-    elim c.match-head.branch [
-      | in-End w ↦ rw (w.report-is, w.numbers-is, w.t-is)
-          (running-end _ _ _ _ _ c.loop-numbers.invariant (at_none _ _ (sym c.message_head-head.ensures ∙ w.in-End.is)))
-      | in_default+then-t-ne0 w ↦ rw (w.report-is, w.numbers-is, w.t-is)
-          (running-stop _ _ _ _ _ c.loop-numbers.invariant w.advance-t.result w.advance-t.new.numbers w.advance-t.new.report
-          (at_some _ _ (λ e. w.in_default.not-End (c.message_head-head.ensures ∙ e)))
-          w.advance-t.auto.numbers w.advance-t.auto.report w.advance-t.ensures w.if-t-ne0.true)
-    ] in
-    let e = ended.slice in search rules
-
-pub venue_of-venue-requires : goal.venue_of-venue-requires
-venue_of-venue-requires c =
-    let ended : RunEnded c.args.messages.now c.args.report.now c.match-head.numbers c.match-head.report c.match-head.t =
-    elim c.match-head.branch [
-      | in-End w ↦ rw (w.report-is, w.numbers-is, w.t-is)
-          (running-end _ _ _ _ _ c.loop-numbers.invariant (at_none _ _ (sym c.message_head-head.ensures ∙ w.in-End.is)))
-      | in_default+then-t-ne0 w ↦ rw (w.report-is, w.numbers-is, w.t-is)
-          (running-stop _ _ _ _ _ c.loop-numbers.invariant w.advance-t.result w.advance-t.new.numbers w.advance-t.new.report
-          (at_some _ _ (λ e. w.in_default.not-End (c.message_head-head.ensures ∙ e)))
-          w.advance-t.auto.numbers w.advance-t.auto.report w.advance-t.ensures w.if-t-ne0.true)
-    ] in
-    ended.slice
 
 pub shape_of-report : goal.shape_of-report
 shape_of-report c =
@@ -76,7 +46,7 @@ shape_of-report c =
       | in_default+then-t-ne0 w ↦ rw (w.report-is, w.numbers-is, w.t-is)
           (running-stop _ _ _ _ _ c.loop-numbers.invariant w.advance-t.result w.advance-t.new.numbers w.advance-t.new.report
           (at_some _ _ (λ e. w.in_default.not-End (c.message_head-head.ensures ∙ e)))
-          w.advance-t.auto.numbers w.advance-t.auto.report w.advance-t.ensures w.if-t-ne0.true)
+          (omega arith) w.advance-t.auto.report w.advance-t.ensures w.if-t-ne0.true)
     ] in
     c.zero_from.auto.out ∙ ended.len
 
@@ -89,7 +59,7 @@ returns c =
       | in_default+then-t-ne0 w ↦ rw (w.report-is, w.numbers-is, w.t-is)
           (running-stop _ _ _ _ _ c.loop-numbers.invariant w.advance-t.result w.advance-t.new.numbers w.advance-t.new.report
           (at_some _ _ (λ e. w.in_default.not-End (c.message_head-head.ensures ∙ e)))
-          w.advance-t.auto.numbers w.advance-t.auto.report w.advance-t.ensures w.if-t-ne0.true)
+          (omega arith) w.advance-t.auto.report w.advance-t.ensures w.if-t-ne0.true)
     ] in
     ran c.args.messages.now c.args.report.now c.match-head.numbers c.match-head.report
     c.zero_from.new.out c.match-head.t c.venue_of-venue.result ended

@@ -18,15 +18,11 @@ loop-numbers-init c = feeding-start _ _ _ _ (search rules) (search rules) c.requ
 pub at_ends-requires : goal.at_ends-requires
 at_ends-requires c = tt
 
-pub slice_bounds-hand_out-end : goal.slice_bounds-hand_out-end
-slice_bounds-hand_out-end c = let e = c.loop-numbers.invariant.sofar.slice in search rules
-
 pub hand_out-t-requires : goal.hand_out-t-requires
 hand_out-t-requires c =
     let ahead : let a = c.args in
     let t = c.loop-numbers.t in t.main + t.spare < length a.main.now + length a.spare.now = let g = c.loop-numbers.invariant in not-ends _ _ _ _ g.main-in g.spare-in (sym c.at_ends.ensures ∙ c.if-at_ends.false) in
     let g = c.loop-numbers.invariant in let w = g.sofar.within in let e = g.sofar.len in record {
-      slice = g.sofar.slice;
       dense = g.dense;
       sound = g.sound;
       within = omega arith;
@@ -49,40 +45,11 @@ loop-numbers-preserved c =
     let ahead : let a = c.args in
     let t = c.loop-numbers.t in t.main + t.spare < length a.main.now + length a.spare.now = let g = c.loop-numbers.invariant in not-ends _ _ _ _ g.main-in g.spare-in (sym c.at_ends.ensures ∙ c.if-at_ends.false) in
     feeding-again _ _ _ _ _ _ c.loop-numbers.invariant
-    ahead c.hand_out-t.result c.hand_out-t.new.numbers c.hand_out-t.new.report c.hand_out-t.auto.numbers
+    ahead c.hand_out-t.result c.hand_out-t.new.numbers c.hand_out-t.new.report (omega arith)
     c.hand_out-t.auto.report c.hand_out-t.ensures c.if-t-ne0.false
 
 pub zero_from-requires : goal.zero_from-requires
 zero_from-requires c = tt
-
--- `ended`: either way out of the loop
-pub slice_bounds-venue_of-end : goal.slice_bounds-venue_of-end
-slice_bounds-venue_of-end c =
-    let ended : FeedEnded c.args.main.now c.args.spare.now c.args.report.now c.if-at_ends.numbers c.if-at_ends.report c.if-at_ends.t =
-    elim c.if-at_ends.branch [
-      | then-at_ends w ↦ rw (w.report-is, w.numbers-is, w.t-is)
-          (feeding-end _ _ _ _ _ _ c.loop-numbers.invariant (sym c.at_ends.ensures ∙ w.if-at_ends.true))
-      | else-at_ends+then-t-ne0 w ↦ rw (w.report-is, w.numbers-is, w.t-is)
-          (feeding-stop _ _ _ _ _ _ c.loop-numbers.invariant
-          (not-ends _ _ _ _ c.loop-numbers.invariant.main-in c.loop-numbers.invariant.spare-in (sym c.at_ends.ensures ∙ w.if-at_ends.false))
-          w.hand_out-t.result w.hand_out-t.new.numbers w.hand_out-t.new.report
-          w.hand_out-t.auto.numbers w.hand_out-t.auto.report w.hand_out-t.ensures w.if-t-ne0.true)
-    ] in
-    let e = ended.slice in search rules
-
-pub venue_of-venue-requires : goal.venue_of-venue-requires
-venue_of-venue-requires c =
-    let ended : FeedEnded c.args.main.now c.args.spare.now c.args.report.now c.if-at_ends.numbers c.if-at_ends.report c.if-at_ends.t =
-    elim c.if-at_ends.branch [
-      | then-at_ends w ↦ rw (w.report-is, w.numbers-is, w.t-is)
-          (feeding-end _ _ _ _ _ _ c.loop-numbers.invariant (sym c.at_ends.ensures ∙ w.if-at_ends.true))
-      | else-at_ends+then-t-ne0 w ↦ rw (w.report-is, w.numbers-is, w.t-is)
-          (feeding-stop _ _ _ _ _ _ c.loop-numbers.invariant
-          (not-ends _ _ _ _ c.loop-numbers.invariant.main-in c.loop-numbers.invariant.spare-in (sym c.at_ends.ensures ∙ w.if-at_ends.false))
-          w.hand_out-t.result w.hand_out-t.new.numbers w.hand_out-t.new.report
-          w.hand_out-t.auto.numbers w.hand_out-t.auto.report w.hand_out-t.ensures w.if-t-ne0.true)
-    ] in
-    ended.slice
 
 pub shape_of-report : goal.shape_of-report
 shape_of-report c =
@@ -94,7 +61,7 @@ shape_of-report c =
           (feeding-stop _ _ _ _ _ _ c.loop-numbers.invariant
           (not-ends _ _ _ _ c.loop-numbers.invariant.main-in c.loop-numbers.invariant.spare-in (sym c.at_ends.ensures ∙ w.if-at_ends.false))
           w.hand_out-t.result w.hand_out-t.new.numbers w.hand_out-t.new.report
-          w.hand_out-t.auto.numbers w.hand_out-t.auto.report w.hand_out-t.ensures w.if-t-ne0.true)
+          (omega arith) w.hand_out-t.auto.report w.hand_out-t.ensures w.if-t-ne0.true)
     ] in
     c.zero_from.auto.out ∙ ended.len
 
@@ -108,7 +75,7 @@ returns c =
           (feeding-stop _ _ _ _ _ _ c.loop-numbers.invariant
           (not-ends _ _ _ _ c.loop-numbers.invariant.main-in c.loop-numbers.invariant.spare-in (sym c.at_ends.ensures ∙ w.if-at_ends.false))
           w.hand_out-t.result w.hand_out-t.new.numbers w.hand_out-t.new.report
-          w.hand_out-t.auto.numbers w.hand_out-t.auto.report w.hand_out-t.ensures w.if-t-ne0.true)
+          (omega arith) w.hand_out-t.auto.report w.hand_out-t.ensures w.if-t-ne0.true)
     ] in
     fed c.args.main.now c.args.spare.now c.args.report.now
     c.if-at_ends.numbers c.if-at_ends.report c.zero_from.new.out c.if-at_ends.t c.venue_of-venue.result c.requires.main

@@ -14,7 +14,7 @@ pub next_part-part-requires : goal.next_part-part-requires
 next_part-part-requires c = asked _ _ _ _ _ _ _ c.up_next-up.ensures.0 c.requires.main-ready c.requires.spare-ready c.up_next-up.ensures.1 c.if-stopped-ne0.false
 
 pub try_step-r-requires : goal.try_step-r-requires
-try_step-r-requires c = record { whole = c.requires.slice; dense = c.requires.dense; sound = c.requires.sound.venue }
+try_step-r-requires c = record { dense = c.requires.dense; sound = c.requires.sound.venue }
 
 pub returns-then-report-from : goal.returns-then-report-from
 returns-then-report-from c = rw c.stop_at-then-report-from.ensures (turn-full c.args.t c.args.main.now c.args.spare.now c.args.numbers.now c.try_step-r.new.numbers c.args.report.now

@@ -41,7 +41,7 @@ returns-then-not-others_stand_with c = let a = c.args in record {
 
 pub is_under_ceiling-requires : goal.is_under_ceiling-requires
 is_under_ceiling-requires c =
-    record { whole = search rules; series = c.requires.series }
+    c.requires.series
 
 pub returns-then-not-is_under_ceiling : goal.returns-then-not-is_under_ceiling
 returns-then-not-is_under_ceiling c =
@@ -57,7 +57,6 @@ returns-then-not-is_under_ceiling c =
 
 pub make_leg-requires : goal.make_leg-requires
 make_leg-requires c = (
-  search rules,
   c.requires.series,
   c.requires.side,
   rw c.others_stand_with.ensures.kept (planned-displayed _ c.args.c _ _ c.plan_leg-l.result c.plan_leg-l.ensures

@@ -34,11 +34,11 @@ returns-then-c-eq0 c =
 
 pub taken_at-requires : goal.taken_at-requires
 taken_at-requires c =
-    record { whole = c.requires.whole; right = c.requires.right; legs = complex-in _ _ c.complex_at-c.result c.complex_at-c.ensures }
+    record { right = c.requires; legs = complex-in _ _ c.complex_at-c.result c.complex_at-c.ensures }
 
 pub may_generate-requires : goal.may_generate-requires
 may_generate-requires c =
-    record { whole = c.requires.whole; taken = c.taken_at.ensures; legs = complex-in _ _ c.complex_at-c.result c.complex_at-c.ensures; figures = c.requires.right.marked.figures }
+    record { taken = c.taken_at.ensures; legs = complex-in _ _ c.complex_at-c.result c.complex_at-c.ensures; figures = c.requires.marked.figures }
 
 pub returns-then-not-may_generate : goal.returns-then-not-may_generate
 returns-then-not-may_generate c =
@@ -55,8 +55,7 @@ pub generate_leg-pos-requires : goal.generate_leg-pos-requires
 generate_leg-pos-requires c =
     let h = complex-in _ _ c.complex_at-c.result c.complex_at-c.ensures in
     record {
-      whole = c.requires.whole;
-      right = c.requires.right;
+      right = c.requires;
       legs = h;
       series = h.first;
       side = h.side1;
@@ -68,8 +67,7 @@ pub generate_leg-requires : goal.generate_leg-requires
 generate_leg-requires c =
     let h = complex-in _ _ c.complex_at-c.result c.complex_at-c.ensures in
     record {
-      whole = search rules;
-      right = c.generate_leg-pos.ensures.counts.right c.requires.right;
+      right = c.generate_leg-pos.ensures.counts.right c.requires;
       legs = h;
       series = h.second;
       side = h.side2;

@@ -22,7 +22,7 @@ pub in_band-requires : goal.in_band-requires
 in_band-requires c =
     let p = c.requires in
     let q = back {z = c.limit_of.result} (record { sfits = c.limit_of.type_inv }) in
-    record { whole = p.whole; taken = p.taken; legs = p.legs; bound = omega (arith, ap nat_abs q, c.limit_of.ensures.1); figures = p.figures }
+    record { taken = p.taken; legs = p.legs; bound = omega (arith, ap nat_abs q, c.limit_of.ensures.1); figures = p.figures }
 
 pub returns : goal.returns
 unfolding may_generate

@@ -11,7 +11,7 @@ price_may_stand-requires c =
     let p = c.requires in
     let a = c.args in
     let v = venue_of a.numbers.now in
-    record { whole = p.whole; own = own_is v a.sides a.c _ _ p.sides; facing = facing-is v a.sides a.c _ _ p.sides _ refl; series = p.series; figures = p.figures }
+    record { own = own_is v a.sides a.c _ _ p.sides; facing = facing-is v a.sides a.c _ _ p.sides _ refl; series = p.series; figures = p.figures }
 
 pub returns-then-not-price_may_stand : goal.returns-then-not-price_may_stand
 unfolding may_stand

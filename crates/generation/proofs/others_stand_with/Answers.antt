@@ -10,7 +10,6 @@ use Rattle.generation.proofs.others_stand_with.Goals as goal
 pub others_stand-stand-requires : goal.others_stand-stand-requires
 others_stand-stand-requires c =
     record {
-      whole = search rules;
       grid = grid-kept c.levels-g.result _ _ (ap (λ (w : Venue). w.regular) c.put_legging.ensures.numbers_after ∙ placed-regular _ _ _) c.levels-g.ensures;
       figures = (c.put_legging.ensures.counts.right c.requires.right).marked.figures;
     }

@@ -18,7 +18,6 @@ pub best_own-requires : goal.best_own-requires
 best_own-requires c =
     let p = c.requires in
     let a = c.args in record {
-      whole = p.whole;
       best = p.facing ∙ ap (best_regular (venue_of a.numbers.now) a.s) (sym c.opposite_of-f.ensures);
       series = p.series;
       side = rw c.opposite_of-f.ensures (opposite-in _);

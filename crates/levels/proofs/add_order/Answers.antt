@@ -5,19 +5,16 @@ use Rattle.levels.proofs.LevelsKept.{place-low, level-small, added}
 use Rattle.levels.proofs.add_order.Goals as goal
 
 pub level_at-l-requires : goal.level_at-l-requires
-level_at-l-requires c = let p = c.requires in record { whole = p.whole; place = place-low _ _ _ p.series p.side c.place_of-n.ensures }
+level_at-l-requires c = let p = c.requires in place-low _ _ _ p.series p.side c.place_of-n.ensures
 
 pub with_order-requires : goal.with_order-requires
 with_order-requires c = let p = c.requires in
     level-small c.args.numbers.now
-    (λ k. omega (arith, c.slice_known-1.given k)) _ _ _ _ p.right p.series p.side
+    c.fits-numbers _ _ _ _ p.right p.series p.side
     c.place_of-n.ensures c.level_at-l.ensures
 
 pub put_level-requires : goal.put_level-requires
-put_level-requires c = let p = c.requires in record {
-  whole = c.add_regular.auto.numbers ∙ p.whole;
-  place = place-low _ _ _ p.series p.side c.place_of-n.ensures;
-}
+put_level-requires c = let p = c.requires in place-low _ _ _ p.series p.side c.place_of-n.ensures
 
 pub returns : goal.returns
 returns c = let p = c.requires in

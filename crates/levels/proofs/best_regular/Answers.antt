@@ -5,7 +5,7 @@ use Rattle.levels.proofs.LevelsKept.{place-low, level-read}
 use Rattle.levels.proofs.best_regular.Goals as goal
 
 pub level_at-l-requires : goal.level_at-l-requires
-level_at-l-requires c = let p = c.requires in record { whole = p.whole; place = place-low _ _ _ p.series p.side c.place_of.ensures }
+level_at-l-requires c = let p = c.requires in place-low _ _ _ p.series p.side c.place_of.ensures
 
 pub returns : goal.returns
 returns c = level-price (venue_of c.args.numbers.now) c.args.s c.args.d _

@@ -9,21 +9,21 @@ use Rattle.levels.proofs.fill_order.Goals as goal
 
 pub regular_at-o-requires : goal.regular_at-o-requires
 regular_at-o-requires c = let f = regulars-few c.args.numbers.now in
-    record { whole = c.requires.whole; place = omega (arith, c.requires.in_use) }
+    omega (arith, c.requires)
 
 pub key_at-n-requires : goal.key_at-n-requires
 key_at-n-requires c = let f = regulars-few c.args.numbers.now in
-    record { whole = c.requires.whole; place = omega (arith, c.requires.in_use) }
+    omega (arith, c.requires)
 
 pub level_at-l-requires : goal.level_at-l-requires
-level_at-l-requires c = record { whole = c.requires.whole; place = key-few _ _ _ c.key_at-n.ensures }
+level_at-l-requires c = key-few _ _ _ c.key_at-n.ensures
 
 pub returns-then-o-l : goal.returns-then-o-l
 returns-then-o-l c = record {
   numbers_after = c.fill_regular.ensures.numbers_after;
   counts = filled_off c.args.numbers.now _ c.args.i c.args.k _
       c.regular_at-o.result
-      c.level_at-l.result c.requires.in_use
+      c.level_at-l.result c.requires
       c.regular_at-o.ensures
       c.key_at-n.ensures
       c.level_at-l.ensures
@@ -32,17 +32,13 @@ returns-then-o-l c = record {
 }
 
 pub put_level-requires : goal.put_level-requires
-put_level-requires c = record {
-  whole = c.fill_regular.auto.numbers
-      ∙ c.requires.whole;
-  place = key-few _ _ _ c.key_at-n.ensures;
-}
+put_level-requires c = key-few _ _ _ c.key_at-n.ensures
 
 pub returns-then-gone-l : goal.returns-then-gone-l
 returns-then-gone-l c = record {
   numbers_after = (filled_on c.args.numbers.now _ c.args.i c.args.k _
       c.regular_at-o.result
-      c.level_at-l.result c.requires.in_use
+      c.level_at-l.result c.requires
       c.regular_at-o.ensures
       c.key_at-n.ensures c.level_at-l.ensures
       c.fill_regular.ensures.numbers_after
@@ -50,7 +46,7 @@ returns-then-gone-l c = record {
       c.put_level.ensures
       (filled-rest c.args.numbers.now _ c.args.i c.args.k _
       c.regular_at-o.result
-      c.level_at-l.result c.requires.in_use
+      c.level_at-l.result c.requires
       c.regular_at-o.ensures
       c.key_at-n.ensures c.level_at-l.ensures
       c.fill_regular.ensures.numbers_after
@@ -61,7 +57,7 @@ returns-then-gone-l c = record {
       refl)).0;
   counts = (filled_on c.args.numbers.now _ c.args.i c.args.k _
       c.regular_at-o.result
-      c.level_at-l.result c.requires.in_use
+      c.level_at-l.result c.requires
       c.regular_at-o.ensures
       c.key_at-n.ensures c.level_at-l.ensures
       c.fill_regular.ensures.numbers_after
@@ -69,7 +65,7 @@ returns-then-gone-l c = record {
       c.put_level.ensures
       (filled-rest c.args.numbers.now _ c.args.i c.args.k _
       c.regular_at-o.result
-      c.level_at-l.result c.requires.in_use
+      c.level_at-l.result c.requires
       c.regular_at-o.ensures
       c.key_at-n.ensures c.level_at-l.ensures
       c.fill_regular.ensures.numbers_after
@@ -82,7 +78,6 @@ returns-then-gone-l c = record {
 
 pub level_of-anew-requires : goal.level_of-anew-requires
 level_of-anew-requires c = record {
-  whole = c.fill_regular.auto.numbers ∙ c.requires.whole;
   series = series-in c.args.numbers.now c.args.i
       c.regular_at-o.result c.regular_at-o.ensures;
   side = side-in c.args.numbers.now c.args.i
@@ -90,24 +85,20 @@ level_of-anew-requires c = record {
 }
 
 pub put_level-requires-2 : goal.put_level-requires-2
-put_level-requires-2 c = record {
-  whole = c.fill_regular.auto.numbers
-      ∙ c.requires.whole;
-  place = key-few _ _ _ c.key_at-n.ensures;
-}
+put_level-requires-2 c = key-few _ _ _ c.key_at-n.ensures
 
 pub returns : goal.returns
 returns c = record {
   numbers_after = (filled_on c.args.numbers.now _ c.args.i c.args.k _
       c.regular_at-o.result
-      c.level_at-l.result c.requires.in_use
+      c.level_at-l.result c.requires
       c.regular_at-o.ensures
       c.key_at-n.ensures
       c.level_at-l.ensures c.fill_regular.ensures.numbers_after
       c.fill_regular.ensures.beside _ _ c.put_level-2.ensures (λ _. c.level_of-anew.ensures)).0;
   counts = (filled_on c.args.numbers.now _ c.args.i c.args.k _
       c.regular_at-o.result
-      c.level_at-l.result c.requires.in_use
+      c.level_at-l.result c.requires
       c.regular_at-o.ensures
       c.key_at-n.ensures
       c.level_at-l.ensures c.fill_regular.ensures.numbers_after

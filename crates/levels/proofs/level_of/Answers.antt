@@ -5,25 +5,19 @@ use borrow.Author.Rules.{rules}
 use Rattle.levels.proofs.LevelChanges.{scanned-none, scanned-past, scanned-on, scanned-all}
 use Rattle.levels.proofs.level_of.Goals as goal
 
-pub regulars_used-i-requires : goal.regulars_used-i-requires
-regulars_used-i-requires c = c.requires.whole
-
 pub loop-i-init : goal.loop-i-init
 loop-i-init c = scanned-none _ _ _ _ _ refl
 
 pub key_at-requires : goal.key_at-requires
 key_at-requires c =
-    record { whole = c.requires.whole; place = omega (arith, c.loop-i.invariant.below, c.regulars_used-i.ensures.1) }
+    omega (arith, c.loop-i.invariant.below, c.regulars_used-i.ensures.1)
 
 pub loop-i-preserved-then-key_at-key : goal.loop-i-preserved-then-key_at-key
 loop-i-preserved-then-key_at-key c = scanned-past _ _ _ _ _ _ c.loop-i.invariant (omega (arith, c.loop-i-test.true))
     (λ e. c.if-key_at-key.true (c.key_at.ensures ∙ e ∙ sym c.place_of-key.ensures))
 
 pub regular_at-o-requires : goal.regular_at-o-requires
-regular_at-o-requires c = record {
-  whole = c.requires.whole;
-  place = omega (arith, c.loop-i.invariant.below, c.regulars_used-i.ensures.1);
-}
+regular_at-o-requires c = omega (arith, c.loop-i.invariant.below, c.regulars_used-i.ensures.1)
 
 pub with_order-l-requires : goal.with_order-l-requires
 with_order-l-requires c = omega (

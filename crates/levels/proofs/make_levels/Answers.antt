@@ -6,30 +6,21 @@ use Rattle.places.proofs.Parts.{regulars-few}
 use Rattle.levels.proofs.LevelsKept.{making-start, making-turn, making-bound, making-end, key-few}
 use Rattle.levels.proofs.make_levels.Goals as goal
 
-pub zero_levels-requires : goal.zero_levels-requires
-zero_levels-requires c = c.requires
-
-pub regulars_used-i-requires : goal.regulars_used-i-requires
-regulars_used-i-requires c = c.zero_levels.auto.numbers ∙ c.requires
-
 pub loop-i-init : goal.loop-i-init
 loop-i-init c = making-start _ _ _ c.regulars_used-i.ensures.0
-    (c.zero_levels.auto.numbers ∙ c.requires)
+    (c.zero_levels.array_long)
     c.zero_levels.ensures
 
 pub regular_at-o-requires : goal.regular_at-o-requires
 regular_at-o-requires c = let f = regulars-few c.args.numbers.now in
-    record { whole = c.loop-i.invariant.long; place = omega (arith, c.loop-i.invariant.below, c.loop-i.invariant.used) }
+    omega (arith, c.loop-i.invariant.below, c.loop-i.invariant.used)
 
 pub key_at-n-requires : goal.key_at-n-requires
 key_at-n-requires c = let f = regulars-few
-    c.args.numbers.now in record {
-      whole = c.loop-i.invariant.long;
-      place = omega (arith, c.loop-i.invariant.below, c.loop-i.invariant.used);
-    }
+    c.args.numbers.now in omega (arith, c.loop-i.invariant.below, c.loop-i.invariant.used)
 
 pub level_at-l-requires : goal.level_at-l-requires
-level_at-l-requires c = record { whole = c.loop-i.invariant.long; place = key-few _ _ _ c.key_at-n.ensures }
+level_at-l-requires c = key-few _ _ _ c.key_at-n.ensures
 
 pub with_order-requires : goal.with_order-requires
 with_order-requires c = rw c.level_at-l.ensures
@@ -37,10 +28,7 @@ with_order-requires c = rw c.level_at-l.ensures
     (key-few _ _ _ c.key_at-n.ensures))
 
 pub put_level-requires : goal.put_level-requires
-put_level-requires c = record {
-  whole = c.loop-i.invariant.long;
-  place = key-few _ _ _ c.key_at-n.ensures;
-}
+put_level-requires c = key-few _ _ _ c.key_at-n.ensures
 
 pub loop-i-preserved : goal.loop-i-preserved
 loop-i-preserved c = making-turn _ _ _ _ _ c.loop-i.invariant
@@ -48,10 +36,7 @@ loop-i-preserved c = making-turn _ _ _ _ _ c.loop-i.invariant
     c.regular_at-o.result
     c.regular_at-o.ensures _
     c.key_at-n.ensures _ _ c.level_at-l.ensures
-    c.with_order.ensures (search rules) c.put_level.auto.numbers c.put_level.ensures
-
-pub shape_of-numbers : goal.shape_of-numbers
-shape_of-numbers c = c.loop-i.invariant.long ∙ sym c.requires
+    c.with_order.ensures (search rules) (omega arith) c.put_level.ensures
 
 pub returns : goal.returns
 returns c = making-end _ _ _ _ _ c.zero_levels.ensures c.loop-i.invariant (omega (arith, c.loop-i-test.false))

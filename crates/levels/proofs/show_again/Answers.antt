@@ -4,7 +4,7 @@ use Rattle.levels.proofs.LevelsKept.{shown-already, shown-again}
 use Rattle.levels.proofs.show_again.Goals as goal
 
 pub returns-then-none_shows_again : goal.returns-then-none_shows_again
-returns-then-none_shows_again c = record { numbers_after = (shown-already _ c.requires.right (sym c.none_shows_again.ensures ∙ c.if-none_shows_again.true)).0; counts = (shown-already _ c.requires.right (sym c.none_shows_again.ensures ∙ c.if-none_shows_again.true)).1 }
+returns-then-none_shows_again c = record { numbers_after = (shown-already _ c.requires (sym c.none_shows_again.ensures ∙ c.if-none_shows_again.true)).0; counts = (shown-already _ c.requires (sym c.none_shows_again.ensures ∙ c.if-none_shows_again.true)).1 }
 
 pub returns : goal.returns
 returns c = let x = c.show_again.ensures in

@@ -7,7 +7,7 @@ use Rattle.levels.proofs.sides_at.Goals as goal
 
 pub best_regular-facing-requires : goal.best_regular-facing-requires
 best_regular-facing-requires c = let p = c.requires in
-    record { whole = p.whole; right = p.right; series = p.series; side = opposite-side _ _ c.opposite_of.ensures }
+    record { right = p.right; series = p.series; side = opposite-side _ _ c.opposite_of.ensures }
 
 pub returns : goal.returns
 unfolding best_regular

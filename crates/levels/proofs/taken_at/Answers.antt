@@ -7,11 +7,11 @@ use Rattle.levels.proofs.taken_at.Goals as goal
 
 pub level_at-first-requires : goal.level_at-first-requires
 level_at-first-requires c = let p = c.requires in
-    record { whole = p.whole; place = place-low _ _ _ p.legs.first (opposite-side _ _ c.opposite_of.ensures) c.place_of.ensures }
+    place-low _ _ _ p.legs.first (opposite-side _ _ c.opposite_of.ensures) c.place_of.ensures
 
 pub level_at-second-requires : goal.level_at-second-requires
 level_at-second-requires c = let p = c.requires in
-    record { whole = p.whole; place = place-low _ _ _ p.legs.second (opposite-side _ _ c.opposite_of-2.ensures) c.place_of-2.ensures }
+    place-low _ _ _ p.legs.second (opposite-side _ _ c.opposite_of-2.ensures) c.place_of-2.ensures
 
 pub returns : goal.returns
 returns c = let p = c.requires in let b = c.args.numbers.now in

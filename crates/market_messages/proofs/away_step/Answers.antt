@@ -12,18 +12,13 @@ returns-then-not-away_in_range c = out-steps _ _ _ _ _ _ _ _ _ (sym c.away_in_ra
 pub set_away-end-requires : goal.set_away-end-requires
 set_away-end-requires c =
     record {
-      whole = c.requires.whole;
       right = c.requires.dense.right;
       series = away-series _ _ _ (sym c.away_in_range.ensures ∙ c.if-not-away_in_range.false);
     }
 
 pub finish-requires : goal.finish-requires
 finish-requires c =
-    record {
-      whole = c.set_away-end.auto.numbers
-          ∙ c.requires.whole;
-      right = c.set_away-end.ensures.counts.right c.requires.dense.right;
-    }
+    c.set_away-end.ensures.counts.right c.requires.dense.right
 
 pub returns : goal.returns
 unfolding perform

@@ -18,7 +18,7 @@ returns-then-not-increment_in_range c = out-steps _ _ _ _ _ _ _ _ _ (any-edition
 
 pub is_idle-used-requires : goal.is_idle-used-requires
 is_idle-used-requires c =
-    record { whole = c.requires.whole; series = (increment-set _ _ (sym c.increment_in_range.ensures ∙ c.if-not-increment_in_range.false)).0 }
+    (increment-set _ _ (sym c.increment_in_range.ensures ∙ c.if-not-increment_in_range.false)).0
 
 pub returns-then-refused-ne0 : goal.returns-then-refused-ne0
 returns-then-refused-ne0 c =
@@ -31,7 +31,6 @@ returns-then-refused-ne0 c =
 pub set_figure-end-requires : goal.set_figure-end-requires
 set_figure-end-requires c =
     record {
-      whole = c.requires.whole;
       free = increment-place _ _ _ _ (sym (c.edition_refusal-refused.ensures ∙ increment-refusal
           (venue_of c.args.numbers.now) c.args.s c.args.x c.args.edition _
           c.is_idle-used.ensures)
@@ -43,11 +42,7 @@ set_figure-end-requires c =
 
 pub finish-requires : goal.finish-requires
 finish-requires c =
-    record {
-      whole = c.set_figure-end.auto.numbers
-          ∙ c.requires.whole;
-      right = c.set_figure-end.ensures.counts.right c.requires.dense.right;
-    }
+    c.set_figure-end.ensures.counts.right c.requires.dense.right
 
 pub returns : goal.returns
 unfolding perform

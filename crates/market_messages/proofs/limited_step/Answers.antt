@@ -11,15 +11,11 @@ returns-then-not-sweep_in_range c = out-steps _ _ _ _ _ _ _ _ _ (sym c.sweep_in_
 
 pub limited_sweep-swept-requires : goal.limited_sweep-swept-requires
 limited_sweep-swept-requires c =
-    record { whole = c.requires.whole; dense = c.requires.dense; rising = sound-rising _ c.requires.sound.is }
+    record { dense = c.requires.dense; rising = sound-rising _ c.requires.sound.is }
 
 pub finish-requires : goal.finish-requires
 finish-requires c =
-    record {
-      whole = c.limited_sweep-swept.auto.numbers
-          ∙ c.requires.whole;
-      right = c.limited_sweep-swept.ensures.counts.right c.requires.dense.right;
-    }
+    c.limited_sweep-swept.ensures.counts.right c.requires.dense.right
 
 pub returns : goal.returns
 unfolding perform

@@ -28,7 +28,6 @@ returns-then-refused-ne0 c =
 pub set_figure-end-requires : goal.set_figure-end-requires
 set_figure-end-requires c =
     record {
-      whole = c.requires.whole;
       free = percent-place _ _ _ (sym (c.edition_refusal-refused.ensures ∙ percent-refusal (venue_of
           c.args.numbers.now) c.args.x c.args.edition) ∙ c.if-refused-ne0.false);
       value = inr
@@ -38,11 +37,7 @@ set_figure-end-requires c =
 
 pub finish-requires : goal.finish-requires
 finish-requires c =
-    record {
-      whole = c.set_figure-end.auto.numbers
-          ∙ c.requires.whole;
-      right = c.set_figure-end.ensures.counts.right c.requires.dense.right;
-    }
+    c.set_figure-end.ensures.counts.right c.requires.dense.right
 
 pub returns : goal.returns
 unfolding is_percent perform

@@ -12,11 +12,11 @@ use Rattle.market_messages.proofs.set_figure.Goals as goal
 
 pub put_edition-requires : goal.put_edition-requires
 put_edition-requires c = let h = c.requires.free in
-    record { whole = c.requires.whole; place = omega arith; free = place-free c.args.numbers.now _ c.free_edition-i.ensures h; value = c.requires.value }
+    record { place = omega arith; free = place-free c.args.numbers.now _ c.free_edition-i.ensures h; value = c.requires.value }
 
 pub settle_all-requires : goal.settle_all-requires
 settle_all-requires c =
-    record { whole = c.put_edition.auto.numbers ∙ c.requires.whole; right = c.put_edition.ensures.counts.right c.requires.right }
+    c.put_edition.ensures.counts.right c.requires.right
 
 pub returns : goal.returns
 returns c =

@@ -12,7 +12,7 @@ use Rattle.market_messages.proofs.set_status.Goals as goal
 
 pub settle_all-requires : goal.settle_all-requires
 settle_all-requires c =
-    record { whole = c.put_listed.auto.numbers ∙ c.requires.whole; right = c.put_listed.ensures.counts.right c.requires.right }
+    c.put_listed.ensures.counts.right c.requires.right
 
 pub returns : goal.returns
 returns c = record {

@@ -12,18 +12,13 @@ returns-then-not-status_in_range c = out-steps _ _ _ _ _ _ _ _ _ (sym c.status_i
 pub set_status-end-requires : goal.set_status-end-requires
 set_status-end-requires c =
     record {
-      whole = c.requires.whole;
       right = c.requires.dense.right;
       series = status-series _ _ (sym c.status_in_range.ensures ∙ c.if-not-status_in_range.false);
     }
 
 pub finish-requires : goal.finish-requires
 finish-requires c =
-    record {
-      whole = c.set_status-end.auto.numbers
-          ∙ c.requires.whole;
-      right = c.set_status-end.ensures.counts.right c.requires.dense.right;
-    }
+    c.set_status-end.ensures.counts.right c.requires.dense.right
 
 pub returns : goal.returns
 unfolding perform

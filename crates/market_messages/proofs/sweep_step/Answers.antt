@@ -7,14 +7,11 @@ use Rattle.market_messages.proofs.sweep_step.Goals as goal
 
 pub sweep-end-requires : goal.sweep-end-requires
 sweep-end-requires c =
-    record { whole = c.requires.whole; dense = c.requires.dense }
+    c.requires.dense
 
 pub finish-requires : goal.finish-requires
 finish-requires c =
-    record {
-      whole = c.sweep-end.auto.numbers ∙ c.requires.whole;
-      right = c.sweep-end.ensures.counts.right c.requires.dense.right;
-    }
+    c.sweep-end.ensures.counts.right c.requires.dense.right
 
 pub returns : goal.returns
 unfolding perform

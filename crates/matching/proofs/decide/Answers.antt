@@ -9,7 +9,7 @@ use Rattle.matching.proofs.TurnsLaws.{turn-idle, none-hit, none_end, some-hit, s
 use Rattle.matching.proofs.decide.Goals as goal
 
 pub regular_at-o-requires : goal.regular_at-o-requires
-regular_at-o-requires c = let w = regulars-few c.args.numbers.now in record { whole = c.requires.whole; place = omega arith }
+regular_at-o-requires c = let w = regulars-few c.args.numbers.now in omega arith
 
 pub returns-then-o-eq0 : goal.returns-then-o-eq0
 unfolding turn_of
@@ -21,11 +21,11 @@ returns-then-o-eq0 c = (
 
 pub facing-l-requires : goal.facing-l-requires
 facing-l-requires c =
-    record { whole = c.requires.whole; series = series-in c.args.numbers.now c.args.i _ c.regular_at-o.ensures }
+    series-in c.args.numbers.now c.args.i _ c.regular_at-o.ensures
 
 pub first_met-found-requires : goal.first_met-found-requires
 first_met-found-requires c =
-    record { whole = c.requires.whole; right = c.requires.right; series = series-in c.args.numbers.now c.args.i _ c.regular_at-o.ensures }
+    record { right = c.requires.right; series = series-in c.args.numbers.now c.args.i _ c.regular_at-o.ensures }
 
 pub returns-then-legging_first : goal.returns-then-legging_first
 unfolding turn_of

@@ -14,7 +14,6 @@ use Rattle.matching.proofs.enter_regular.Goals as goal
 pub add_order-requires : goal.add_order-requires
 add_order-requires c =
     record {
-      whole = c.requires.whole;
       right = c.requires.dense.right;
       room = c.requires.room;
       series = c.requires.series;
@@ -29,7 +28,7 @@ add_order-requires c =
 pub meet_all-requires : goal.meet_all-requires
 meet_all-requires c =
     let a = c.add_order.ensures.counts in
-    record { whole = c.add_order.auto.numbers ∙ c.requires.whole; in_use = omega (arith, a.regulars, c.regulars_used-i.ensures.0); right = a.right c.requires.dense.right }
+    record { in_use = omega (arith, a.regulars, c.regulars_used-i.ensures.0); right = a.right c.requires.dense.right }
 
 pub returns : goal.returns
 returns c =

@@ -10,9 +10,9 @@ pub legging_at-requires : goal.legging_at-requires
 unfolding place_of
 legging_at-requires c =
     let h = opposite-in c.args.side in
-    record { whole = c.requires.whole; place = omega (arith, c.place_of-n.ensures, c.opposite_of.ensures, c.requires.series) }
+    omega (arith, c.place_of-n.ensures, c.opposite_of.ensures, c.requires)
 
 pub returns : goal.returns
 returns c =
-    legging-read c.args.numbers.now c.args.series (opposite c.args.side) _ _ c.requires.series (opposite-in _)
+    legging-read c.args.numbers.now c.args.series (opposite c.args.side) _ _ c.requires (opposite-in _)
     (c.place_of-n.ensures ∙ ap (place_of c.args.series) c.opposite_of.ensures) c.legging_at.ensures

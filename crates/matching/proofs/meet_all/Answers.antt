@@ -1,4 +1,5 @@
 -- `matching::meet_all` meets its contract.
+use native.Mathlib.Omega.{arith}
 use mathlib.Core.Path.{sym, ap, ◌∙◌}
 use Rattle.places.specs.Layout.{venue_of}
 use Rattle.matching.specs.Turns.{turn_of}
@@ -6,14 +7,11 @@ use Rattle.matching.proofs.TurnsLaws.{turning-start, turning-end, turning-stop, 
 use Rattle.matching.proofs.meet_all.Goals as goal
 
 pub loop-turns-init : goal.loop-turns-init
-loop-turns-init c = turning-start _ _ _ _ _ c.requires.whole
+loop-turns-init c = turning-start _ _ _ _ _ c.told-numbers
 
 pub decide-plan-requires : goal.decide-plan-requires
 decide-plan-requires c =
-    record { whole = c.loop-turns.invariant.whole; in_use = rw c.loop-turns.invariant.counts.regulars c.requires.in_use; right = c.loop-turns.invariant.counts.right c.requires.right }
-
-pub shape_of-numbers-in-Ended : goal.shape_of-numbers-in-Ended
-shape_of-numbers-in-Ended c = c.loop-turns.invariant.whole ∙ sym c.requires.whole
+    record { in_use = rw c.loop-turns.invariant.counts.regulars c.requires.in_use; right = c.loop-turns.invariant.counts.right c.requires.right }
 
 pub shape_of-out-in-Ended : goal.shape_of-out-in-Ended
 shape_of-out-in-Ended c = turning-room c.loop-turns.invariant
@@ -25,26 +23,23 @@ returns-in-Ended c =
 
 pub hit-pos-requires : goal.hit-pos-requires
 hit-pos-requires c =
-    record { whole = c.loop-turns.invariant.whole; in_use = rw c.loop-turns.invariant.counts.regulars c.requires.in_use; right = c.loop-turns.invariant.counts.right c.requires.right }
+    record { in_use = rw c.loop-turns.invariant.counts.regulars c.requires.in_use; right = c.loop-turns.invariant.counts.right c.requires.right }
 
 pub loop-turns-preserved-in-Hit : goal.loop-turns-preserved-in-Hit
 unfolding turn_of
 loop-turns-preserved-in-Hit c =
     turning-turn c.loop-turns.invariant _ _ _ _ c.loop-turns-test.true
-    (sym (ap (turn_of c.args.i (venue_of c.loop-turns.numbers)) c.in-Hit.is) ∙ c.decide-plan.ensures.0) c.hit-pos.auto.numbers (c.hit-pos.ensures.result_after, c.hit-pos.ensures.counts)
+    (sym (ap (turn_of c.args.i (venue_of c.loop-turns.numbers)) c.in-Hit.is) ∙ c.decide-plan.ensures.0) (omega arith) (c.hit-pos.ensures.result_after, c.hit-pos.ensures.counts)
 
 pub meet-pos-requires : goal.meet-pos-requires
 meet-pos-requires c =
-    record { whole = c.loop-turns.invariant.whole; first = rw c.loop-turns.invariant.counts.regulars c.requires.in_use; second = rw c.in-Meet.is at c.decide-plan.ensures.1 }
+    record { first = rw c.loop-turns.invariant.counts.regulars c.requires.in_use; second = rw c.in-Meet.is at c.decide-plan.ensures.1 }
 
 pub loop-turns-preserved : goal.loop-turns-preserved
 unfolding turn_of
 loop-turns-preserved c =
     turning-turn c.loop-turns.invariant _ _ _ _ c.loop-turns-test.true
-    (sym (ap (turn_of c.args.i (venue_of c.loop-turns.numbers)) c.in-Meet.is) ∙ c.decide-plan.ensures.0) c.meet-pos.auto.numbers (c.meet-pos.ensures.result_after, c.meet-pos.ensures.counts)
-
-pub shape_of-numbers : goal.shape_of-numbers
-shape_of-numbers c = c.loop-turns.invariant.whole ∙ sym c.requires.whole
+    (sym (ap (turn_of c.args.i (venue_of c.loop-turns.numbers)) c.in-Meet.is) ∙ c.decide-plan.ensures.0) (omega arith) (c.meet-pos.ensures.result_after, c.meet-pos.ensures.counts)
 
 pub shape_of-out : goal.shape_of-out
 shape_of-out c = turning-room c.loop-turns.invariant

@@ -34,7 +34,6 @@ order_step-requires c =
     let bs = c.args.message.now in
     let f = c.requires.framed in
     let e : u16_at bs 2 ≡ 1 = omega arith in record {
-      whole = c.requires.whole;
       dense = c.requires.dense;
       sound = c.requires.sound;
       fully = message-fully bs _ (message-order bs e ∙ ap Order (sym (c.order_at-o.ensures ∙ ap (λ
@@ -62,7 +61,7 @@ two_leg_at-c-requires c =
 
 pub pair_step-requires : goal.pair_step-requires
 pair_step-requires c =
-    record { whole = c.requires.whole; dense = c.requires.dense; sound = c.requires.sound; pair = pair_one _ _ c.two_leg_at-c.ensures }
+    record { dense = c.requires.dense; sound = c.requires.sound; pair = pair_one _ _ c.two_leg_at-c.ensures }
 
 pub returns-then-kind-le2 : goal.returns-then-kind-le2
 unfolding in_range far_of

@@ -107,7 +107,6 @@ order_step-requires c =
     let bs = c.args.message.now in
     let f = c.requires.framed in
     let e : u16_at bs 2 ≡ 9 = omega arith in record {
-      whole = c.requires.whole;
       dense = c.requires.dense;
       sound = c.requires.sound;
       fully = message-fully bs _ (message-reserve bs e ∙ ap Order (sym (c.order_at-o.ensures ∙ ap (λ

@@ -13,7 +13,6 @@ half_at-kind-requires c = let f = c.frame_refusal-refused.ensures.framed c.if-re
 pub first_kinds-requires : goal.first_kinds-requires
 first_kinds-requires c =
     record {
-      whole = c.requires.whole;
       dense = c.requires.dense;
       sound = c.requires.sound;
       framed = c.frame_refusal-refused.ensures.framed
@@ -28,7 +27,6 @@ returns-then-kind-le3 c = c.first_kinds.ensures
 pub market_kinds-requires : goal.market_kinds-requires
 market_kinds-requires c =
     record {
-      whole = c.requires.whole;
       dense = c.requires.dense;
       sound = c.requires.sound;
       framed = c.frame_refusal-refused.ensures.framed
@@ -44,7 +42,6 @@ returns-then-kind-le6 c = c.market_kinds.ensures
 pub later_kinds-requires : goal.later_kinds-requires
 later_kinds-requires c =
     record {
-      whole = c.requires.whole;
       dense = c.requires.dense;
       sound = c.requires.sound;
       framed = c.frame_refusal-refused.ensures.framed

@@ -1,5 +1,5 @@
 -- `messages::step_or_leave` meets its contract.
-use mathlib.Core.Path.{◌∙◌}
+use mathlib.Core.Path.{refl}
 use native.Mathlib.Omega.{arith}
 use Rattle.messages.proofs.Trying.{tries-done, tries_left}
 use Rattle.messages.proofs.step_or_leave.Goals as goal
@@ -9,4 +9,4 @@ returns-then-r-out c = tries-done _ _ _ _ _ _ c.step-r.ensures (omega arith)
 
 pub returns : goal.returns
 returns c = tries_left _ _ _ _ _ _ c.step-r.ensures _ (omega arith)
-    (c.copy-2.ensures ∙ c.copy.ensures) c.requires.dense
+    refl c.requires.dense

@@ -22,17 +22,13 @@ returns-then-not-rests c = in-steps _ _ _ _ _ _ _ _ _ (sym (id-is _ (omega arith
 pub cancel-end-requires : goal.cancel-end-requires
 cancel-end-requires c =
     record {
-      whole = c.requires.whole;
       dense = c.requires.dense;
       rests = sym c.rests.ensures ∙ c.if-not-rests.false;
     }
 
 pub finish-requires : goal.finish-requires
 finish-requires c =
-    record {
-      whole = c.cancel-end.auto.numbers ∙ c.requires.whole;
-      right = c.cancel-end.ensures.counts.right c.requires.dense.right;
-    }
+    c.cancel-end.ensures.counts.right c.requires.dense.right
 
 pub returns : goal.returns
 unfolding perform

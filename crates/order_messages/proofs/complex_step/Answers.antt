@@ -13,7 +13,6 @@ returns-then-refused-ne0 c = refused-steps _ _ _ _ _ _ _ _ c.complex_refusal-ref
 pub enter_complex-end-requires : goal.enter_complex-end-requires
 enter_complex-end-requires c =
     record {
-      whole = c.requires.whole;
       dense = c.requires.dense;
       room = complex-room _ c.requires.dense _ (sym c.complex_refusal-refused.ensures
           ∙ c.if-refused-ne0.false);

@@ -11,7 +11,6 @@ use Rattle.order_messages.proofs.enter_complex.Goals as goal
 pub complex_order-requires : goal.complex_order-requires
 complex_order-requires c = let p = c.put_last.ensures in let k = p.counts.complexes in let h = c.requires.room in
     record {
-      whole = c.put_last.auto.numbers ∙ c.requires.whole;
       dense = last-dense _ _ _ p.numbers_after p.counts c.requires.dense;
       room = omega arith;
       legs = c.requires.legs;

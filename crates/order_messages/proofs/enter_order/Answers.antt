@@ -19,7 +19,6 @@ order-requires c =
     let r = c.requires.in_range in
     let f = c.requires.fully in
     let z = regular-side _ r in record {
-      whole = c.put_last.auto.numbers ∙ c.requires.whole;
       dense = last-dense _ _ _ p.numbers_after p.counts c.requires.dense;
       room = omega arith;
       series = z.series;

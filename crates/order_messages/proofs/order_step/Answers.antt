@@ -11,7 +11,7 @@ returns-then-not-regular_in_range c = out-steps _ _ _ _ _ _ _ _ _ (sym c.regular
 
 pub order_refusal-refused-requires : goal.order_refusal-refused-requires
 order_refusal-refused-requires c =
-    record { whole = c.requires.whole; dense = c.requires.dense; in_range = sym c.regular_in_range.ensures ∙ c.if-not-regular_in_range.false }
+    record { dense = c.requires.dense; in_range = sym c.regular_in_range.ensures ∙ c.if-not-regular_in_range.false }
 
 pub returns-then-refused-ne0 : goal.returns-then-refused-ne0
 returns-then-refused-ne0 c = in-steps _ _ _ _ _ _ _ _ _ (sym c.regular_in_range.ensures
@@ -23,7 +23,6 @@ pub enter_order-end-requires : goal.enter_order-end-requires
 enter_order-end-requires c =
     let r = sym c.order_refusal-refused.ensures
     ∙ c.if-refused-ne0.false in record {
-      whole = c.requires.whole;
       dense = c.requires.dense;
       room = order-room _ c.requires.dense _ r;
       in_range = sym c.regular_in_range.ensures ∙ c.if-not-regular_in_range.false;

@@ -10,7 +10,6 @@ returns-then-not-two_leg_in_range c = out-steps _ _ _ _ _ _ _ _ _ (sym c.two_leg
 pub complex_step-requires : goal.complex_step-requires
 complex_step-requires c =
     record {
-      whole = c.requires.whole;
       dense = c.requires.dense;
       sound = c.requires.sound;
       in_range = pair-ranged _ c.requires.pair (sym c.two_leg_in_range.ensures ∙ c.if-not-two_leg_in_range.false);

@@ -16,7 +16,6 @@ returns-then-c c = equal-steps _ _ _ _ _ _ _ _ _ (sym c.two_leg_in_range.ensures
 pub complex_step-requires : goal.complex_step-requires
 complex_step-requires c =
     record {
-      whole = c.requires.whole;
       dense = c.requires.dense;
       sound = c.requires.sound;
       in_range = ratio-ranged _ c.if-c.false (sym

@@ -13,7 +13,7 @@ use Rattle.settling.proofs.settle_all.Reads as settle-all-reads
 use Rattle.orders.proofs.cancel.Goals as goal
 
 pub settle_all-requires : goal.settle_all-requires
-settle_all-requires c = record { whole = c.withdraw-pos.auto.numbers ∙ c.requires.whole; right = c.withdraw-pos.ensures.counts.right c.requires.dense.right }
+settle_all-requires c = c.withdraw-pos.ensures.counts.right c.requires.dense.right
 
 pub returns : goal.returns
 unfolding cancel withdrawn

@@ -12,18 +12,17 @@ use Rattle.orders.proofs.complex_order.Goals as goal
 pub work-worked-requires : goal.work-worked-requires
 work-worked-requires c =
     record {
-      whole = c.add_complex.auto.numbers ∙ c.requires.whole;
       right = c.add_complex.ensures.counts.right c.requires.dense.right;
       in_use = omega (arith, c.add_complex.ensures.counts.complexes, c.complexes_used-i.ensures.0);
     }
 
 pub settle_all-settled-requires : goal.settle_all-settled-requires
 settle_all-settled-requires c =
-    record { whole = c.work-worked.auto.numbers ∙ c.add_complex.auto.numbers ∙ c.requires.whole; right = c.work-worked.ensures.counts.right (c.add_complex.ensures.counts.right c.requires.dense.right) }
+    c.work-worked.ensures.counts.right (c.add_complex.ensures.counts.right c.requires.dense.right)
 
 pub generate_order-requires : goal.generate_order-requires
 generate_order-requires c =
-    record { whole = c.settle_all-settled.auto.numbers ∙ c.work-worked.auto.numbers ∙ c.add_complex.auto.numbers ∙ c.requires.whole; right = c.settle_all-settled.ensures.counts.right (c.work-worked.ensures.counts.right (c.add_complex.ensures.counts.right c.requires.dense.right)) }
+    c.settle_all-settled.ensures.counts.right (c.work-worked.ensures.counts.right (c.add_complex.ensures.counts.right c.requires.dense.right))
 
 pub returns : goal.returns
 returns c =

@@ -15,7 +15,7 @@ pub enter_regular-pos-requires : goal.enter_regular-pos-requires
 enter_regular-pos-requires c = c.requires
 
 pub settle_all-requires : goal.settle_all-requires
-settle_all-requires c = record { whole = c.enter_regular-pos.auto.numbers ∙ c.requires.whole; right = c.enter_regular-pos.ensures.counts.right c.requires.dense.right }
+settle_all-requires c = c.enter_regular-pos.ensures.counts.right c.requires.dense.right
 
 pub returns : goal.returns
 unfolding order

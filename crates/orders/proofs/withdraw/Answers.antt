@@ -15,13 +15,10 @@ use Rattle.trades.proofs.cancel_regular.Reads as cancel-regular-reads
 use Rattle.orders.proofs.withdraw.Goals as goal
 
 pub withdraw_complex-requires : goal.withdraw_complex-requires
-withdraw_complex-requires c = record {
-  whole = c.requires.whole;
-  rests = or_r (rests_regular (venue_of c.args.numbers.now) c.args.id)
+withdraw_complex-requires c = or_r (rests_regular (venue_of c.args.numbers.now) c.args.id)
       (rests_complex (venue_of c.args.numbers.now) c.args.id)
       (regular-not c.args.numbers.now c.args.id
-      (sym c.in_default.is ∙ c.regular_place-found.ensures)) c.requires.rests;
-}
+      (sym c.in_default.is ∙ c.regular_place-found.ensures)) c.requires.rests
 
 pub returns-in_default : goal.returns-in_default
 returns-in_default c = record {
@@ -33,11 +30,8 @@ returns-in_default c = record {
 }
 
 pub cancel_regular-requires : goal.cancel_regular-requires
-cancel_regular-requires c = record {
-  whole = c.requires.whole;
-  in_use = regular-used c.args.numbers.now c.args.id _
-      (sym c.in-At.is ∙ c.regular_place-found.ensures);
-}
+cancel_regular-requires c = regular-used c.args.numbers.now c.args.id _
+      (sym c.in-At.is ∙ c.regular_place-found.ensures)
 
 pub returns : goal.returns
 returns c = record {

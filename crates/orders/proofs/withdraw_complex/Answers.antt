@@ -18,15 +18,12 @@ each : {A B : Type 0} → A × B → record { result_after : A; counts : B }
 each h = record { result_after = h.0; counts = h.1 }
 
 pub returns-in_default : goal.returns-in_default
-returns-in_default c = each (absurd (true≢false (sym c.requires.rests ∙ complex-not c.args.numbers.now c.args.id
+returns-in_default c = each (absurd (true≢false (sym c.requires ∙ complex-not c.args.numbers.now c.args.id
     (sym c.in_default.is ∙ c.complex_place-found.ensures))))
 
 pub cancel_complex-requires : goal.cancel_complex-requires
-cancel_complex-requires c = record {
-  whole = c.requires.whole;
-  in_use = complex-used c.args.numbers.now c.args.id _
-      (sym c.in-At.is ∙ c.complex_place-found.ensures);
-}
+cancel_complex-requires c = complex-used c.args.numbers.now c.args.id _
+      (sym c.in-At.is ∙ c.complex_place-found.ensures)
 
 pub returns : goal.returns
 returns c = record {

@@ -1,6 +1,5 @@
 -- `place_writes::add_complex` meets its contract.
 use Rattle.place_writes.proofs.Stores.{added-complex}
-use mathlib.Core.Path.{◌∙◌}
 use lib.ListN.{length-set}
 use native.Mathlib.Omega.{arith}
 use Rattle.place_writes.proofs.add_complex.Goals as goal
@@ -12,9 +11,6 @@ each h = record { numbers_after = h.0; counts = h.1 }
 pub lower-requires : goal.lower-requires
 lower-requires c = (simp length-set (omega arith), omega arith)
 
-pub shape_of-numbers : goal.shape_of-numbers
-shape_of-numbers c = c.lower.auto.numbers ∙ simp length-set c.write_complex.auto.numbers
-
 pub returns : goal.returns
-returns c = each (added-complex c.args.numbers.now _ _ _ c.args.c c.requires.whole c.requires.room c.requires.first c.requires.side1 c.requires.second c.requires.side2 c.write_complex.ensures.1
+returns c = each (added-complex c.args.numbers.now _ _ _ c.args.c c.told-numbers c.requires.room c.requires.first c.requires.side1 c.requires.second c.requires.side2 c.write_complex.ensures.1
     c.complexes_used-n.ensures.0 c.write_complex.ensures.0 c.lower.ensures)

@@ -2,7 +2,6 @@
 use mathlib.Core.Path.{refl}
 use mathlib.Core.Logic.{inr}
 use native.Mathlib.Omega.{arith}
-use lib.ListN.{length-set}
 use Rattle.place_writes.proofs.GenerationsPut.{written-first, written_next, count-generation}
 use Rattle.place_writes.proofs.count_generation.Goals as goal
 
@@ -11,23 +10,11 @@ each : {A B : Type 0} → A × B → record { numbers_after : A; counts : B }
 each h = record { numbers_after = h.0; counts = h.1 }
 
 pub loop-k-init : goal.loop-k-init
-loop-k-init c = (omega arith, omega arith, c.requires.whole, written-first _ _ _ _ c.requires.whole (omega arith))
-
-pub bounds-numbers-k : goal.bounds-numbers-k
-bounds-numbers-k c = omega arith
-
-pub bounds-numbers-k-in-loop-k : goal.bounds-numbers-k-in-loop-k
-bounds-numbers-k-in-loop-k c = omega arith
+loop-k-init c = (omega arith, omega arith, c.told-numbers, written-first _ _ _ _ c.told-numbers (omega arith))
 
 pub loop-k-preserved : goal.loop-k-preserved
 loop-k-preserved c = let m = written_next _ _ _ _ _ _ _ c.loop-k.invariant.3 (omega arith) (omega arith) refl
     (c.loop-k.invariant.3.rest _ (inr (omega arith))) in (omega arith, omega arith, m.long, m)
-
-pub bounds-numbers-last : goal.bounds-numbers-last
-bounds-numbers-last c = omega arith
-
-pub shape_of-numbers : goal.shape_of-numbers
-shape_of-numbers c = simp length-set (omega arith)
 
 pub returns : goal.returns
 returns c = each (count-generation _ _ _ _ _ _ _ (omega arith) (omega arith) (omega arith) (omega arith) c.loop-k.invariant.3)

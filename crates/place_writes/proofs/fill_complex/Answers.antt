@@ -1,5 +1,4 @@
 -- `place_writes::fill_complex` meets its contract.
-use mathlib.Core.Path.{◌∙◌}
 use native.Mathlib.Omega.{arith}
 use lib.ListN.{length-set}
 use Rattle.places.specs.Layout.{complexes_used}
@@ -43,14 +42,11 @@ unfolding complexes_used
 bounds-numbers-i-2 c = omega arith
 
 pub returns-then-k-q : goal.returns-then-k-q
-returns-then-k-q c = each (complex-stays c.args.numbers.now c.args.i c.args.k c.less.result c.requires.whole c.requires.in_use c.less.ensures c.if-k-q.true)
+returns-then-k-q c = each (complex-stays c.args.numbers.now c.args.i c.args.k c.less.result c.told-numbers c.requires c.less.ensures c.if-k-q.true)
 
 pub lower-requires : goal.lower-requires
 unfolding complexes_used
 lower-requires c = (simp length-set (omega arith), omega arith)
 
-pub shape_of-numbers : goal.shape_of-numbers
-shape_of-numbers c = c.lower.auto.numbers ∙ simp length-set
-
 pub returns : goal.returns
-returns c = each (complex-leaves c.args.numbers.now c.args.i c.args.k c.less.result c.requires.whole c.requires.in_use c.less.ensures _ c.lower.ensures)
+returns c = each (complex-leaves c.args.numbers.now c.args.i c.args.k c.less.result c.told-numbers c.requires c.less.ensures _ c.lower.ensures)

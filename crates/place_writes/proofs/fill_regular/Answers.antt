@@ -1,5 +1,4 @@
 -- `place_writes::fill_regular` meets its contract.
-use mathlib.Core.Path.{◌∙◌}
 use native.Mathlib.Omega.{arith}
 use lib.ListN.{length-set}
 use Rattle.places.specs.Layout.{regulars_used}
@@ -46,11 +45,8 @@ pub lower-requires : goal.lower-requires
 unfolding regulars_used
 lower-requires c = (simp length-set (omega arith), omega arith)
 
-pub shape_of-numbers-then-q-k : goal.shape_of-numbers-then-q-k
-shape_of-numbers-then-q-k c = c.lower.auto.numbers ∙ simp length-set
-
 pub returns-then-q-k : goal.returns-then-q-k
-returns-then-q-k c = each (regular-leaves c.args.numbers.now c.args.i c.args.k c.less.result c.requires.whole c.requires.in_use c.less.ensures
+returns-then-q-k c = each (regular-leaves c.args.numbers.now c.args.i c.args.k c.less.result c.told-numbers c.requires c.less.ensures
     c.if-q-k.true _ c.lower.ensures)
 
 pub overflow_mul-i : goal.overflow_mul-i
@@ -67,10 +63,10 @@ offset_bounds-numbers-i-3 c = record { fits = omega arith }
 
 pub bounds-numbers-i-3 : goal.bounds-numbers-i-3
 unfolding regulars_used
-bounds-numbers-i-3 c = simp length-set (omega arith)
+bounds-numbers-i-3 c = omega arith
 
 pub returns-then-numbers-i-eq0 : goal.returns-then-numbers-i-eq0
-returns-then-numbers-i-eq0 c = each (regular-stays c.args.numbers.now c.args.i c.args.k c.less.result c.requires.whole c.requires.in_use c.less.ensures (omega arith) c.if-numbers-i-eq0.true)
+returns-then-numbers-i-eq0 c = each (regular-stays c.args.numbers.now c.args.i c.args.k c.less.result c.told-numbers c.requires c.less.ensures (omega arith) c.if-numbers-i-eq0.true)
 
 pub returns : goal.returns
-returns c = each (regular-hides c.args.numbers.now c.args.i c.args.k c.less.result c.requires.whole c.requires.in_use c.less.ensures (omega arith))
+returns c = each (regular-hides c.args.numbers.now c.args.i c.args.k c.less.result c.told-numbers c.requires c.less.ensures (omega arith))

@@ -9,16 +9,10 @@ each : {A B : Type 0} → A × B → record { numbers_after : A; counts : B }
 each h = record { numbers_after = h.0; counts = h.1 }
 
 pub loop-k-init : goal.loop-k-init
-loop-k-init c = (omega arith, c.requires.whole, written-first _ _ _ _ c.requires.whole (omega arith))
-
-pub bounds-numbers-s : goal.bounds-numbers-s
-bounds-numbers-s c = omega arith
+loop-k-init c = (omega arith, c.told-numbers, written-first _ _ _ _ c.told-numbers (omega arith))
 
 pub loop-k-preserved : goal.loop-k-preserved
 loop-k-preserved c = let m = put_next _ _ c.args.g.messages _ _ c.loop-k.invariant.2 (omega arith) (omega arith) in (omega arith, m.long, m)
-
-pub shape_of-numbers : goal.shape_of-numbers
-shape_of-numbers c = omega arith
 
 pub returns : goal.returns
 returns c = each (put-generations _ _ _ _ _ (omega arith) (search rules) (omega arith) c.loop-k.invariant.2)

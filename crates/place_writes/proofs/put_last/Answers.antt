@@ -8,4 +8,4 @@ use Rattle.places.specs.Offsets.{last_id_at}
 use Rattle.place_writes.proofs.put_last.Goals as goal
 
 pub returns : goal.returns
-returns c = record { numbers_after = put_last c.args.numbers.now c.args.id c.requires; counts = counts-kept (stored c.args.numbers.now last_id_at c.args.id) (omega arith) (omega arith) (inl (omega arith)) }
+returns c = record { numbers_after = put_last c.args.numbers.now c.args.id c.told-numbers; counts = counts-kept (stored c.args.numbers.now last_id_at c.args.id) (omega arith) (omega arith) (inl (omega arith)) }

@@ -7,4 +7,4 @@ each : {A B : Type 0} → A × B → record { numbers_after : A; counts : B }
 each h = record { numbers_after = h.0; counts = h.1 }
 
 pub returns : goal.returns
-returns c = each (put-reached _ _ c.requires)
+returns c = each (put-reached _ _ c.told-numbers)

@@ -1,6 +1,5 @@
 -- `place_writes::show_again` meets its contract.
 use native.Mathlib.Omega.{arith}
-use lib.ListN.{length-set}
 use Rattle.place_writes.proofs.Again.{again-start, again-next, again-end}
 use Rattle.place_writes.proofs.show_again.Goals as goal
 
@@ -9,23 +8,14 @@ each : {A B : Type 0} → A × B → record { numbers_after : A; beside : B }
 each h = record { numbers_after = h.0; beside = h.1 }
 
 pub loop-i-init : goal.loop-i-init
-loop-i-init c = (omega arith, c.requires, again-start _ c.requires)
+loop-i-init c = (omega arith, c.told-numbers, again-start _ c.told-numbers)
 
 pub regular_at-o-requires : goal.regular_at-o-requires
-regular_at-o-requires c = record { whole = c.loop-i.invariant.1; place = omega arith }
-
-pub bounds-numbers-i : goal.bounds-numbers-i
-bounds-numbers-i c = omega arith
+regular_at-o-requires c = omega arith
 
 pub loop-i-preserved : goal.loop-i-preserved
 loop-i-preserved c = let m = again-next _ _ _ c.regular_at-o.result _ c.loop-i.invariant.2 (omega arith)
     c.regular_at-o.ensures c.less.ensures in (omega arith, m.long, m)
-
-pub bounds-numbers-1231 : goal.bounds-numbers-1231
-bounds-numbers-1231 c = omega arith
-
-pub shape_of-numbers : goal.shape_of-numbers
-shape_of-numbers c = simp length-set (omega arith)
 
 pub returns : goal.returns
 returns c = each (again-end _ _ _ _ c.loop-i.invariant.2 c.regulars_used-n.ensures.0 (omega arith))

@@ -8,7 +8,6 @@ use Rattle.rules.specs.Words.{place_of}
 use Rattle.places.specs.Layout.{legs_key, ratios_number, limit_number, complex_row}
 use Rattle.places.specs.Offsets.{complex_id_at, complex_legs_at, complex_ratios_at, complex_class_at, complex_limit_at, complex_quantity_at}
 use Rattle.places.proofs.Limits.{back32, limit-back}
-use lib.ListN.{length-set}
 use borrow.Author.Rules.{rules}
 use Rattle.place_writes.proofs.write_complex.Goals as goal
 
@@ -19,24 +18,6 @@ overflow_mul-numbers-2 c = search rules
 pub overflow_add-numbers-2 : goal.overflow_add-numbers-2
 unfolding place_of
 overflow_add-numbers-2 c = search rules
-
-pub bounds-numbers-i-2 : goal.bounds-numbers-i-2
-bounds-numbers-i-2 c = simp length-set (omega arith)
-
-pub bounds-numbers-i-3 : goal.bounds-numbers-i-3
-bounds-numbers-i-3 c = simp length-set (omega arith)
-
-pub bounds-numbers-i-4 : goal.bounds-numbers-i-4
-bounds-numbers-i-4 c = simp length-set (omega arith)
-
-pub bounds-numbers-i-5 : goal.bounds-numbers-i-5
-bounds-numbers-i-5 c = simp length-set (omega arith)
-
-pub bounds-numbers-i-6 : goal.bounds-numbers-i-6
-bounds-numbers-i-6 c = simp length-set (omega arith)
-
-pub shape_of-numbers : goal.shape_of-numbers
-shape_of-numbers c = simp length-set
 
 pub returns : goal.returns
 unfolding complex_row legs_key ratios_number

@@ -2,19 +2,9 @@
 use mathlib.Core.Path.{◌≡◌, refl}
 use Prim.Native.Nat.{suc, ◌+◌, ◌*◌}
 use native.Mathlib.Omega.{arith}
-use lib.ListN.{length-set}
 use Rattle.places.specs.Layout.{edition_row}
 use Rattle.places.specs.Offsets.{edition_number_at, edition_message_at, edition_figure_at, edition_value_at}
 use Rattle.place_writes.proofs.write_edition.Goals as goal
-
-pub bounds-numbers-i-2 : goal.bounds-numbers-i-2
-bounds-numbers-i-2 c = simp length-set (omega arith)
-
-pub bounds-numbers-i-3 : goal.bounds-numbers-i-3
-bounds-numbers-i-3 c = simp length-set (omega arith)
-
-pub bounds-numbers-i-4 : goal.bounds-numbers-i-4
-bounds-numbers-i-4 c = simp length-set (omega arith)
 
 pub returns : goal.returns
 unfolding edition_row

@@ -1,29 +1,10 @@
 -- `place_writes::write_regular` meets its contract.
 use Rattle.places.specs.Layout.{regular_row, reserve_row}
 use Rattle.places.specs.Offsets.{regular_reserve_at, regular_display_at}
-use lib.ListN.{length-set}
 use native.Mathlib.Omega.{arith}
 use Prim.Native.Nat.{suc, ◌+◌, ◌*◌}
 use mathlib.Core.Path.{◌≡◌, refl}
 use Rattle.place_writes.proofs.write_regular.Goals as goal
-
-pub bounds-numbers-i-2 : goal.bounds-numbers-i-2
-bounds-numbers-i-2 c = simp length-set (omega arith)
-
-pub bounds-numbers-i-3 : goal.bounds-numbers-i-3
-bounds-numbers-i-3 c = simp length-set (omega arith)
-
-pub bounds-numbers-i-4 : goal.bounds-numbers-i-4
-bounds-numbers-i-4 c = simp length-set (omega arith)
-
-pub bounds-numbers-i-5 : goal.bounds-numbers-i-5
-bounds-numbers-i-5 c = simp length-set (omega arith)
-
-pub bounds-numbers-i-6 : goal.bounds-numbers-i-6
-bounds-numbers-i-6 c = simp length-set (omega arith)
-
-pub shape_of-numbers : goal.shape_of-numbers
-shape_of-numbers c = simp length-set
 
 pub returns : goal.returns
 unfolding regular_row reserve_row

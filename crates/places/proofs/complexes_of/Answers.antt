@@ -12,7 +12,7 @@ unfolding in_use upto
 loop-i-init c = (omega arith, refl)
 
 pub complex_at-x-requires : goal.complex_at-x-requires
-complex_at-x-requires c = record { whole = c.requires; place = omega arith }
+complex_at-x-requires c = omega arith
 
 pub bounds-r-i : goal.bounds-r-i
 bounds-r-i c = let z = ap length c.loop-i.invariant.1 in

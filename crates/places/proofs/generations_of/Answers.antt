@@ -12,7 +12,7 @@ unfolding in_use upto
 loop-i-init c = (omega arith, refl)
 
 pub generations_at-x-requires : goal.generations_at-x-requires
-generations_at-x-requires c = record { whole = c.requires; series = omega arith }
+generations_at-x-requires c = omega arith
 
 pub bounds-r-i : goal.bounds-r-i
 bounds-r-i c = let z = ap length c.loop-i.invariant.1 in

@@ -12,7 +12,7 @@ unfolding in_use upto
 loop-i-init c = (omega arith, refl)
 
 pub legging_at-x-requires : goal.legging_at-x-requires
-legging_at-x-requires c = record { whole = c.requires; place = omega arith }
+legging_at-x-requires c = omega arith
 
 pub bounds-r-i : goal.bounds-r-i
 bounds-r-i c = let z = ap length c.loop-i.invariant.1 in

@@ -9,10 +9,10 @@ use Rattle.places.proofs.read_regulars.Goals as goal
 
 pub loop-i-init : goal.loop-i-init
 unfolding in_use upto
-loop-i-init c = (omega arith, c.requires.free)
+loop-i-init c = (omega arith, c.requires)
 
 pub regular_at-x-requires : goal.regular_at-x-requires
-regular_at-x-requires c = record { whole = c.requires.whole; place = omega arith }
+regular_at-x-requires c = omega arith
 
 pub bounds-r-i : goal.bounds-r-i
 bounds-r-i c = let z = ap length c.loop-i.invariant.1 in

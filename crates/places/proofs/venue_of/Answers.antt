@@ -4,7 +4,7 @@ use Rattle.places.proofs.Parts.{venue-is}
 use Rattle.places.proofs.venue_of.Goals as goal
 
 pub read_regulars-requires : goal.read_regulars-requires
-read_regulars-requires c = record { whole = c.requires; free = refl }
+read_regulars-requires c = refl
 
 pub returns : goal.returns
 returns c = venue-is _ _ c.read_regulars.ensures

@@ -8,7 +8,6 @@ use Rattle.prices.proofs.in_band.Goals as goal
 pub market_best-first-requires : goal.market_best-first-requires
 market_best-first-requires c =
     let a = c.args in record {
-      whole = c.requires.whole;
       best = first-best (venue_of a.numbers.now) a.taken a.c c.requires.taken _
           c.opposite_of.ensures;
       series = c.requires.legs.first;
@@ -20,7 +19,6 @@ returns-then-first-eq0 c = band-none1 _ c.args.c _ _ c.market_best-first.ensures
 pub market_best-second-requires : goal.market_best-second-requires
 market_best-second-requires c =
     let a = c.args in record {
-      whole = c.requires.whole;
       best = second-best (venue_of a.numbers.now) a.taken a.c
           c.requires.taken _ c.opposite_of-2.ensures;
       series = c.requires.legs.second;

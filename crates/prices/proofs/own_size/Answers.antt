@@ -20,7 +20,7 @@ returns-then-l-eq0 c =
 pub overflow_add-result : goal.overflow_add-result
 overflow_add-result c =
     let a = c.args in
-    let z = level-most a.numbers.now (λ k. omega (arith, c.shared_slice_known-1.given k)) a.s a.d a.level c.requires.level in
+    let z = level-most a.numbers.now c.fits-numbers a.s a.d a.level c.requires.level in
     search rules
 
 pub returns-then-l-level : goal.returns-then-l-level

@@ -4,4 +4,4 @@ use Rattle.places.proofs.Parts.{listed-read}
 use Rattle.prices.proofs.status_of.Goals as goal
 
 pub returns : goal.returns
-returns c = status-is _ _ c.listed_at-x.result (listed-read _ _ c.listed_at-x.result c.requires.series c.listed_at-x.ensures)
+returns c = status-is _ _ c.listed_at-x.result (listed-read _ _ c.listed_at-x.result c.requires c.listed_at-x.ensures)

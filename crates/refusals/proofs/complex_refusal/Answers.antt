@@ -16,7 +16,7 @@ returns-then-c-last_id c = refuses-low (venue_of c.args.numbers.now) (TwoLeg c.a
     (ap (leb c.args.c.id) (sym c.last_id.ensures) ∙ le-leb _ _ c.if-c-last_id.true)
 
 pub any_closed-requires : goal.any_closed-requires
-any_closed-requires c = (c.requires.whole, legs-in c.args.c c.requires.in_range)
+any_closed-requires c = legs-in c.args.c c.requires.in_range
 
 pub returns-then-any_closed : goal.returns-then-any_closed
 unfolding off_increment edition_too_low in_use no_edition_left id_too_low on_closed

@@ -14,7 +14,7 @@ use Rattle.refusals.proofs.RefusalFound.{refuses-off, refuses-low, refuses-close
 use Rattle.refusals.proofs.order_refusal.Goals as goal
 
 pub off_increment-requires : goal.off_increment-requires
-off_increment-requires c = record { whole = c.requires.whole; series = (regular-side c.args.o c.requires.in_range).series; figures = c.requires.dense.right.marked.figures }
+off_increment-requires c = record { series = (regular-side c.args.o c.requires.in_range).series; figures = c.requires.dense.right.marked.figures }
 
 pub returns-then-off_increment : goal.returns-then-off_increment
 returns-then-off_increment c = refuses-off (venue_of c.args.numbers.now) (Order c.args.o) (sym c.off_increment.ensures ∙ c.if-off_increment.true)
@@ -28,7 +28,7 @@ returns-then-o-last_id c =
     (ap (leb c.args.o.id) (sym c.last_id.ensures) ∙ le-leb _ _ c.if-o-last_id.true)
 
 pub status_of-requires : goal.status_of-requires
-status_of-requires c = record { whole = c.requires.whole; series = (regular-side c.args.o c.requires.in_range).series }
+status_of-requires c = (regular-side c.args.o c.requires.in_range).series
 
 pub returns-then-status_of-eq0 : goal.returns-then-status_of-eq0
 unfolding edition_too_low in_use no_edition_left id_too_low on_closed

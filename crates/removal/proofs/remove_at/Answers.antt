@@ -11,12 +11,12 @@ pub returns-then-n1-n2 : goal.returns-then-n1-n2
 returns-then-n1-n2 c =
     let a = c.args in
     record {
-      result_after = (one-gone (λ m _. fail_if (eqb m a.n1 || eqb m a.n2) a.cause) _ _ _ _ c.requires.whole _ _ _
-          c.remove_place.auto.numbers a.n1 c.requires.first (λ _. at_one a.n1 a.n2 a.n1 a.cause refl)
+      result_after = (one-gone (λ m _. fail_if (eqb m a.n1 || eqb m a.n2) a.cause) _ _ _ _ c.told-numbers _ _ _
+          (omega arith) a.n1 c.requires.first (λ _. at_one a.n1 a.n2 a.n1 a.cause refl)
           (λ m _ p. at-neither a.n1 a.n2 m a.cause p (λ e. p (e ∙ sym c.if-n1-n2.true)))
           (c.remove_place.ensures.result_after, c.remove_place.ensures.counts)).0;
-      counts = (one-gone (λ m _. fail_if (eqb m a.n1 || eqb m a.n2) a.cause) _ _ _ _ c.requires.whole _ _ _
-          c.remove_place.auto.numbers a.n1 c.requires.first (λ _. at_one a.n1 a.n2 a.n1 a.cause refl)
+      counts = (one-gone (λ m _. fail_if (eqb m a.n1 || eqb m a.n2) a.cause) _ _ _ _ c.told-numbers _ _ _
+          (omega arith) a.n1 c.requires.first (λ _. at_one a.n1 a.n2 a.n1 a.cause refl)
           (λ m _ p. at-neither a.n1 a.n2 m a.cause p (λ e. p (e ∙ sym c.if-n1-n2.true)))
           (c.remove_place.ensures.result_after, c.remove_place.ensures.counts)).1;
     }
@@ -27,18 +27,18 @@ returns-then-n2-n1 c =
     in
     let a = s.args in
     record {
-      result_after = (two_gone (λ m _. fail_if (eqb m a.n1 || eqb m a.n2) a.cause) _ _ _ _ s.requires.whole _ _ _
-          c.remove_place-pos.auto.numbers a.n2 a.n1
+      result_after = (two_gone (λ m _. fail_if (eqb m a.n1 || eqb m a.n2) a.cause) _ _ _ _ c.told-numbers _ _ _
+          (omega arith) a.n2 a.n1
           c.if-n2-n1.true s.requires.first (λ _. at-two
           a.n1 a.n2 a.n2 a.cause refl) (λ _. at_one a.n1 a.n2 a.n1 a.cause refl) (λ m _ p q. at-neither a.n1 a.n2 m a.cause q p)
           (c.remove_place-pos.ensures.result_after, c.remove_place-pos.ensures.counts) _ _ _
-          c.remove_place-then-n2-n1.auto.numbers (c.remove_place-then-n2-n1.ensures.result_after, c.remove_place-then-n2-n1.ensures.counts)).0;
-      counts = (two_gone (λ m _. fail_if (eqb m a.n1 || eqb m a.n2) a.cause) _ _ _ _ s.requires.whole _ _ _
-          c.remove_place-pos.auto.numbers a.n2 a.n1
+          (omega arith) (c.remove_place-then-n2-n1.ensures.result_after, c.remove_place-then-n2-n1.ensures.counts)).0;
+      counts = (two_gone (λ m _. fail_if (eqb m a.n1 || eqb m a.n2) a.cause) _ _ _ _ c.told-numbers _ _ _
+          (omega arith) a.n2 a.n1
           c.if-n2-n1.true s.requires.first (λ _. at-two
           a.n1 a.n2 a.n2 a.cause refl) (λ _. at_one a.n1 a.n2 a.n1 a.cause refl) (λ m _ p q. at-neither a.n1 a.n2 m a.cause q p)
           (c.remove_place-pos.ensures.result_after, c.remove_place-pos.ensures.counts) _ _ _
-          c.remove_place-then-n2-n1.auto.numbers (c.remove_place-then-n2-n1.ensures.result_after, c.remove_place-then-n2-n1.ensures.counts)).1;
+          (omega arith) (c.remove_place-then-n2-n1.ensures.result_after, c.remove_place-then-n2-n1.ensures.counts)).1;
     }
 
 pub returns : goal.returns
@@ -48,14 +48,14 @@ returns c =
     let a = s.args in
     let n = c.if-n1-n2.false in
     record {
-      result_after = (two_gone (λ m _. fail_if (eqb m a.n1 || eqb m a.n2) a.cause) _ _ _ _ s.requires.whole _ _ _
-          c.remove_place-pos-2.auto.numbers a.n1 a.n2 (omega (arith, n))
+      result_after = (two_gone (λ m _. fail_if (eqb m a.n1 || eqb m a.n2) a.cause) _ _ _ _ c.told-numbers _ _ _
+          (omega arith) a.n1 a.n2 (omega (arith, n))
           s.requires.second (λ _. at_one a.n1 a.n2 a.n1 a.cause refl) (λ _. at-two a.n1 a.n2 a.n2 a.cause refl) (λ m _ p q. at-neither a.n1
           a.n2 m a.cause p q) (c.remove_place-pos-2.ensures.result_after, c.remove_place-pos-2.ensures.counts) _ _ _
-          c.remove_place-2.auto.numbers (c.remove_place-2.ensures.result_after, c.remove_place-2.ensures.counts)).0;
-      counts = (two_gone (λ m _. fail_if (eqb m a.n1 || eqb m a.n2) a.cause) _ _ _ _ s.requires.whole _ _ _
-          c.remove_place-pos-2.auto.numbers a.n1 a.n2 (omega (arith, n))
+          (omega arith) (c.remove_place-2.ensures.result_after, c.remove_place-2.ensures.counts)).0;
+      counts = (two_gone (λ m _. fail_if (eqb m a.n1 || eqb m a.n2) a.cause) _ _ _ _ c.told-numbers _ _ _
+          (omega arith) a.n1 a.n2 (omega (arith, n))
           s.requires.second (λ _. at_one a.n1 a.n2 a.n1 a.cause refl) (λ _. at-two a.n1 a.n2 a.n2 a.cause refl) (λ m _ p q. at-neither a.n1
           a.n2 m a.cause p q) (c.remove_place-pos-2.ensures.result_after, c.remove_place-pos-2.ensures.counts) _ _ _
-          c.remove_place-2.auto.numbers (c.remove_place-2.ensures.result_after, c.remove_place-2.ensures.counts)).1;
+          (omega arith) (c.remove_place-2.ensures.result_after, c.remove_place-2.ensures.counts)).1;
     }

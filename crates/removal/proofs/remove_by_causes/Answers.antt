@@ -8,7 +8,7 @@ use Rattle.removal.proofs.remove_by_causes.Goals as goal
 
 pub loop-rest-init : goal.loop-rest-init
 loop-rest-init c =
-    (removing-start _ _ _ _ c.requires, left-start c.args.causes (search rules))
+    (removing-start _ _ _ _ c.told-numbers, left-start c.args.causes (search rules))
 
 -- a place that has a cause left is one of the sixteen
 
@@ -25,19 +25,16 @@ pub remove_place-pos-requires : goal.remove_place-pos-requires
 remove_place-pos-requires c =
     let few : c.loop-rest.n < 16 = let i = c.loop-rest.invariant in
     left-few i.1 i.0.few c.loop-rest-test.true in
-    record { whole = search rules; place = few }
+    few
 
 pub loop-rest-preserved : goal.loop-rest-preserved
 loop-rest-preserved c =
     let few : c.loop-rest.n < 16 = let i = c.loop-rest.invariant in
     left-few i.1 i.0.few c.loop-rest-test.true in
     let i = c.loop-rest.invariant in (
-      removing-turn _ i.0 _ _ _ _ few (left_here i.1 _ ∙ sym c.verdict_by-found.ensures ∙ c.in-Fails.is) c.remove_place-pos.auto.numbers (c.remove_place-pos.ensures.result_after, c.remove_place-pos.ensures.counts),
+      removing-turn _ i.0 _ _ _ _ few (left_here i.1 _ ∙ sym c.verdict_by-found.ensures ∙ c.in-Fails.is) (omega arith) (c.remove_place-pos.ensures.result_after, c.remove_place-pos.ensures.counts),
       left-on i.1 few,
     )
-
-pub shape_of-numbers : goal.shape_of-numbers
-shape_of-numbers c = c.loop-rest.invariant.0.whole ∙ sym c.requires
 
 pub shape_of-out : goal.shape_of-out
 shape_of-out c = removing-room _ c.loop-rest.invariant.0

@@ -1,11 +1,12 @@
 -- `removal::remove_of` meets its contract.
+use native.Mathlib.Omega.{arith}
 use mathlib.Core.Path.{sym, ◌∙◌}
 use Rattle.rules.specs.Removal.{remove_of}
 use Rattle.removal.proofs.RemovalLaws.{removing-start, removing-turn, removing-past, removing-end, removing-room, by-parent, not-parent}
 use Rattle.removal.proofs.remove_of.Goals as goal
 
 pub loop-n-init : goal.loop-n-init
-loop-n-init c = removing-start _ _ _ _ c.requires
+loop-n-init c = removing-start _ _ _ _ c.told-numbers
 
 pub loop-n-preserved-then-l-parent : goal.loop-n-preserved-then-l-parent
 loop-n-preserved-then-l-parent c =
@@ -13,11 +14,8 @@ loop-n-preserved-then-l-parent c =
 
 pub loop-n-preserved : goal.loop-n-preserved
 loop-n-preserved c =
-    removing-turn _ c.loop-n.invariant _ _ _ _ c.loop-n-test.true (by-parent _ _ c.legging_at-l.ensures c.if-l-parent.false) c.remove_place-pos.auto.numbers
+    removing-turn _ c.loop-n.invariant _ _ _ _ c.loop-n-test.true (by-parent _ _ c.legging_at-l.ensures c.if-l-parent.false) (omega arith)
     (c.remove_place-pos.ensures.result_after, c.remove_place-pos.ensures.counts)
-
-pub shape_of-numbers : goal.shape_of-numbers
-shape_of-numbers c = c.loop-n.invariant.whole ∙ sym c.requires
 
 pub shape_of-out : goal.shape_of-out
 shape_of-out c = removing-room _ c.loop-n.invariant

@@ -14,7 +14,7 @@ returns-then-l-eq0 c =
     let a = c.args in record {
       result_after = does-nothing (venue_of a.numbers.now) a.out.now a.at
           ∙ ap (λ (e : Effect). seen a.out.now a.at does e)
-          (remove-place-free a.n (venue_of a.numbers.now) _ (legging-at a.numbers.now a.n c.requires.place ∙ sym c.legging_at-l.ensures) a.cause c.if-l-eq0.true);
+          (remove-place-free a.n (venue_of a.numbers.now) _ (legging-at a.numbers.now a.n c.requires ∙ sym c.legging_at-l.ensures) a.cause c.if-l-eq0.true);
       counts = record { regulars = refl; complexes = refl; right = λ h. h };
     }
 
@@ -24,6 +24,6 @@ returns c =
       result_after = does-report _ _ _ _ _ _ c.emit_removed.ensures
           ∙ ap (λ (e : Effect). seen a.out.now a.at does e)
           (ap (report _) c.put_legging.ensures.numbers_after
-          ∙ remove-place-held a.n (venue_of a.numbers.now) _ (legging-at a.numbers.now a.n c.requires.place ∙ sym c.legging_at-l.ensures) a.cause c.if-l-eq0.false);
+          ∙ remove-place-held a.n (venue_of a.numbers.now) _ (legging-at a.numbers.now a.n c.requires ∙ sym c.legging_at-l.ensures) a.cause c.if-l-eq0.false);
       counts = c.put_legging.ensures.counts;
     }

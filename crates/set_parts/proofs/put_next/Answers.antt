@@ -7,7 +7,7 @@ use Rattle.set_parts.proofs.PartsLaws.{regular-there, complex-there, regular-aft
 use Rattle.set_parts.proofs.put_next.Goals as goal
 
 pub regular_at-o-requires : goal.regular_at-o-requires
-regular_at-o-requires c = record { whole = c.requires.whole; place = omega (arith, regular-there _ _ _ _ _ (sym c.regular_next.ensures ∙ c.if-regular_next.true)) }
+regular_at-o-requires c = omega (arith, regular-there _ _ _ _ _ (sym c.regular_next.ensures ∙ c.if-regular_next.true))
 
 pub returns-then-regular_next : goal.returns-then-regular_next
 returns-then-regular_next c =
@@ -22,14 +22,11 @@ returns-then-regular_next c =
     }
 
 pub complex_at-c-requires : goal.complex_at-c-requires
-complex_at-c-requires c = record {
-  whole = c.requires.whole;
-  place = omega (
+complex_at-c-requires c = omega (
     arith,
     complex-there _ _ _ _ _ (omega arith) (omega arith) (omega arith)
         (sym c.regular_next.ensures ∙ c.if-regular_next.false),
-  );
-}
+  )
 
 pub returns : goal.returns
 returns c =

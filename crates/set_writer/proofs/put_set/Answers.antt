@@ -14,6 +14,6 @@ returns c =
     c.put_editions-editions.ensures)
     c.put_orders-orders.ensures) c.put_leggings-leggings.ensures)
     c.put_all_generations-generations.ensures) c.put_reached.ensures)
-    (parts-joined _ c.requires.dense _ _ _
+    (parts-joined _ c.requires _ _ _
     c.last_id.ensures
     c.reached_id.ensures)

@@ -18,7 +18,7 @@ returns-then-not-load_ready c = c.refuse.ensures ∙ not_carried
     (sym c.load_ready.ensures.answer ∙ c.if-not-load_ready.true)
 
 pub put_set-written-requires : goal.put_set-written-requires
-put_set-written-requires c = record { whole = search rules; dense = (c.load_ready.ensures.loaded c.if-not-load_ready.false).dense }
+put_set-written-requires c = (c.load_ready.ensures.loaded c.if-not-load_ready.false).dense
 
 pub returns-then-memory-written : goal.returns-then-memory-written
 returns-then-memory-written c =

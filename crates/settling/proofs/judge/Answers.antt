@@ -25,7 +25,6 @@ test_order-requires c =
     let p = c.requires in
     let legs : LegsIn c.parent_of-c.result = rw c.parent_of-c.ensures
     (parent-legs c.args.numbers.now c.legging_at-l.result) in record {
-      whole = p.whole;
       sides = sides-right c.args.g _ p.grid c.parent_of-c.result legs _ _ (omega arith)
           (omega arith) c.sides_of-sides.result c.sides_of-sides.ensures;
       legs = legs;

@@ -9,7 +9,6 @@ clear_price-requires c =
     let p = c.requires in
     let a = c.args in
     record {
-      whole = p.whole;
       best = other-price (venue_of a.numbers.now) a.taken a.c a.s p.taken c.other_level-best.result c.other_level-best.ensures c.other_leg-other.result
           c.other_leg-other.ensures _ c.opposite_of.ensures;
       series = other-in _ _ c.other_leg-other.result c.other_leg-other.ensures p.legs;

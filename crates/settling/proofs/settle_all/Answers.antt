@@ -10,7 +10,7 @@ use Rattle.settling.proofs.settle_all.Goals as goal
 
 pub remove_failing-requires : goal.remove_failing-requires
 remove_failing-requires c =
-    record { whole = c.show_again.auto.numbers ∙ c.requires.whole; right = c.show_again.ensures.counts.right c.requires.right }
+    c.show_again.ensures.counts.right c.requires
 
 pub returns : goal.returns
 unfolding settle

@@ -21,7 +21,7 @@ pub in_band-requires : goal.in_band-requires
 in_band-requires c =
     let p = c.requires in
     let q = back {z = c.limit_of.result} (record { sfits = c.limit_of.type_inv }) in
-    record { whole = p.whole; taken = p.sides.taken; legs = p.legs; bound = omega (arith, ap nat_abs q, c.limit_of.ensures.1); figures = p.figures }
+    record { taken = p.sides.taken; legs = p.legs; bound = omega (arith, ap nat_abs q, c.limit_of.ensures.1); figures = p.figures }
 
 pub returns-then-not-in_band : goal.returns-then-not-in_band
 unfolding verdict_of

@@ -10,7 +10,7 @@ pub loop-s-init : goal.loop-s-init
 loop-s-init c = (search rules, series-scan (apart (venue_of c.args.numbers.now)))
 
 pub is_apart-requires : goal.is_apart-requires
-is_apart-requires c = record { whole = c.requires.whole; right = c.requires.right; series = c.loop-s-test.true }
+is_apart-requires c = record { right = c.requires; series = c.loop-s-test.true }
 
 pub returns-then-not-is_apart : goal.returns-then-not-is_apart
 returns-then-not-is_apart c = scan-stop (apart (venue_of c.args.numbers.now)) (λ n. n) c.loop-s.s 8

@@ -7,11 +7,11 @@ pub returns-then-not-places_sound : goal.returns-then-not-places_sound
 returns-then-not-places_sound c = checked-not _ _ (sym c.places_sound.ensures ∙ c.if-not-places_sound.true)
 
 pub load-requires : goal.load-requires
-load-requires c = record { whole = c.requires; loadable = places-load c.args.v (sym c.places_sound.ensures ∙ c.if-not-places_sound.false) }
+load-requires c = places-load c.args.v (sym c.places_sound.ensures ∙ c.if-not-places_sound.false)
 
 pub orders_sound-requires : goal.orders_sound-requires
 orders_sound-requires c =
-    record { whole = c.load.auto.numbers ∙ c.requires; right = c.load.ensures.dense.right }
+    c.load.ensures.dense.right
 
 pub returns : goal.returns
 returns c = checked _ _ _

@@ -14,7 +14,7 @@ loop-i-init c = let b = c.args.numbers.now in
     (search rules, ap (λ (k : ℕ). all (priced_on (venue_of b)) (upto (regular_in b) 0 k)) (sub-zero _ ∙ c.regulars_used-n.ensures.0) ∙ prices-scan b)
 
 pub on_increment-requires : goal.on_increment-requires
-on_increment-requires c = record { whole = c.requires.whole; series = rw c.regular_at-o.ensures (series-in c.args.numbers.now c.loop-i.i); figures = c.requires.figures }
+on_increment-requires c = record { series = rw c.regular_at-o.ensures (series-in c.args.numbers.now c.loop-i.i); figures = c.requires }
 
 pub returns-then-not-on_increment : goal.returns-then-not-on_increment
 returns-then-not-on_increment c = let b = c.args.numbers.now in scan-stop (priced_on (venue_of b)) (regular_in b)

@@ -15,7 +15,7 @@ use Rattle.sweeps.proofs.generate_round.Goals as goal
 
 pub generate_places-requires : goal.generate_places-requires
 generate_places-requires c =
-    record { whole = c.generate_places-pos.auto.numbers ∙ c.requires.whole; right = c.generate_places-pos.ensures.counts.right c.requires.right; in_use = omega (arith, c.requires.others, c.generate_places-pos.ensures.counts.complexes) }
+    record { right = c.generate_places-pos.ensures.counts.right c.requires.right; in_use = omega (arith, c.requires.others, c.generate_places-pos.ensures.counts.complexes) }
 
 pub returns : goal.returns
 unfolding round_places

@@ -7,7 +7,7 @@ use Rattle.sweeps.proofs.RoundLaws.{last-other, last-above, last_none}
 use Rattle.sweeps.proofs.last_looked.Goals as goal
 
 pub complex_at-c-requires : goal.complex_at-c-requires
-complex_at-c-requires c = record { whole = c.requires.whole; place = omega (arith, c.if-r-gt0.true, c.requires.others, complexes-few c.args.numbers.now) }
+complex_at-c-requires c = omega (arith, c.if-r-gt0.true, c.requires.others, complexes-few c.args.numbers.now)
 
 pub returns-then-r-gt0 : goal.returns-then-r-gt0
 returns-then-r-gt0 c =
@@ -17,7 +17,7 @@ pub overflow_add-r : goal.overflow_add-r
 overflow_add-r c = omega (arith, c.requires.above, complexes-few c.args.numbers.now)
 
 pub complex_at-c-requires-then-r-gt0-2 : goal.complex_at-c-requires-then-r-gt0-2
-complex_at-c-requires-then-r-gt0-2 c = record { whole = c.requires.whole; place = omega (arith, c.if-r-gt0-2.true, c.requires.above, complexes-few c.args.numbers.now) }
+complex_at-c-requires-then-r-gt0-2 c = omega (arith, c.if-r-gt0-2.true, c.requires.above, complexes-few c.args.numbers.now)
 
 pub returns-then-r-gt0-2 : goal.returns-then-r-gt0-2
 returns-then-r-gt0-2 c =

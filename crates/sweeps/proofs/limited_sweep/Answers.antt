@@ -16,7 +16,6 @@ overflow_cast-looked c = omega (arith, c.round_of-round.ensures.within.0, c.roun
 pub work_round-worked-requires : goal.work_round-worked-requires
 work_round-worked-requires c =
     record {
-      whole = c.put_reached.auto.numbers ∙ c.requires.whole;
       right = c.put_reached.ensures.counts.right c.requires.dense.right;
       above = omega (arith, c.round_of-round.ensures.within.0, c.put_reached.ensures.counts.complexes);
       others = omega (arith, c.round_of-round.ensures.within.1, c.put_reached.ensures.counts.complexes);
@@ -24,13 +23,12 @@ work_round-worked-requires c =
 
 pub settle_all-settled-requires : goal.settle_all-settled-requires
 settle_all-settled-requires c =
-    record { whole = c.work_round-worked.auto.numbers ∙ c.put_reached.auto.numbers ∙ c.requires.whole; right = c.work_round-worked.ensures.counts.right (c.put_reached.ensures.counts.right c.requires.dense.right) }
+    c.work_round-worked.ensures.counts.right (c.put_reached.ensures.counts.right c.requires.dense.right)
 
 pub generate_round-end-requires : goal.generate_round-end-requires
 generate_round-end-requires c =
     let n = c.settle_all-settled.ensures.counts.complexes ∙ c.work_round-worked.ensures.counts.complexes ∙ c.put_reached.ensures.counts.complexes in
     record {
-      whole = c.settle_all-settled.auto.numbers ∙ c.work_round-worked.auto.numbers ∙ c.put_reached.auto.numbers ∙ c.requires.whole;
       right = c.settle_all-settled.ensures.counts.right (c.work_round-worked.ensures.counts.right (c.put_reached.ensures.counts.right c.requires.dense.right));
       above = omega (arith, c.round_of-round.ensures.within.0, n);
       others = omega (arith, c.round_of-round.ensures.within.1, n);

@@ -5,18 +5,12 @@ use Rattle.rules.specs.declared.Complex.{Complex}
 use Rattle.sweeps.proofs.RoundLaws.{low-more, going-round}
 use Rattle.sweeps.proofs.round_start.Goals as goal
 
-pub complexes_used-used-requires : goal.complexes_used-used-requires
-complexes_used-used-requires c = c.requires.whole
-
-pub reached_id-reached-requires : goal.reached_id-reached-requires
-reached_id-reached-requires c = c.requires.whole
-
 pub loop-k-init : goal.loop-k-init
 loop-k-init c = (omega arith, λ i h. absurd (omega arith))
 
 pub complex_at-c-requires : goal.complex_at-c-requires
 complex_at-c-requires c =
-    record { whole = c.requires.whole; place = omega (arith, c.loop-k-test.true, c.complexes_used-used.ensures.1) }
+    omega (arith, c.loop-k-test.true, c.complexes_used-used.ensures.1)
 
 pub returns-then-reached-c : goal.returns-then-reached-c
 returns-then-reached-c c =

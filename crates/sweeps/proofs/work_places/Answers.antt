@@ -8,7 +8,7 @@ use Rattle.sweeps.proofs.RoundLaws.{each_of-none, each_of-same, each_of-turn}
 use Rattle.sweeps.proofs.work_places.Goals as goal
 
 pub loop-k-init : goal.loop-k-init
-loop-k-init c = doing-start _ _ _ _ _ c.requires.whole (each_of-same work _ _ _ _ _ (omega arith) (omega arith))
+loop-k-init c = doing-start _ _ _ _ _ c.told-numbers (each_of-same work _ _ _ _ _ (omega arith) (omega arith))
 
 pub overflow_add-first : goal.overflow_add-first
 overflow_add-first c = omega (arith, c.loop-k-test.true, c.requires.in_use, complexes-few c.args.numbers.now)
@@ -16,7 +16,7 @@ overflow_add-first c = omega (arith, c.loop-k-test.true, c.requires.in_use, comp
 pub work-pos-requires : goal.work-pos-requires
 work-pos-requires c =
     let l = c.loop-k.invariant in
-    record { whole = l.whole; right = l.counts.right c.requires.right; in_use = omega (arith, c.loop-k-test.true, c.requires.in_use, l.counts.complexes) }
+    record { right = l.counts.right c.requires.right; in_use = omega (arith, c.loop-k-test.true, c.requires.in_use, l.counts.complexes) }
 
 pub overflow_add-k : goal.overflow_add-k
 overflow_add-k c = omega (arith, c.loop-k-test.true, c.requires.in_use, complexes-few c.args.numbers.now)
@@ -28,10 +28,7 @@ pub loop-k-preserved : goal.loop-k-preserved
 loop-k-preserved c =
     doing-turn c.loop-k.invariant _ _ _ _ _
     (each_of-turn work _ _ _ _ _ (omega (arith, c.loop-k-test.true)) (omega arith))
-    c.work-pos.auto.numbers c.work-pos.ensures.result_after c.work-pos.ensures.counts
-
-pub shape_of-numbers : goal.shape_of-numbers
-shape_of-numbers c = c.loop-k.invariant.whole ∙ sym c.requires.whole
+    (omega arith) c.work-pos.ensures.result_after c.work-pos.ensures.counts
 
 pub shape_of-out : goal.shape_of-out
 shape_of-out c = doing-room c.loop-k.invariant

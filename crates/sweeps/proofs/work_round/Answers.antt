@@ -14,7 +14,7 @@ use Rattle.sweeps.proofs.work_round.Goals as goal
 
 pub work_places-requires : goal.work_places-requires
 work_places-requires c =
-    record { whole = c.work_places-pos.auto.numbers ∙ c.requires.whole; right = c.work_places-pos.ensures.counts.right c.requires.right; in_use = omega (arith, c.requires.others, c.work_places-pos.ensures.counts.complexes) }
+    record { right = c.work_places-pos.ensures.counts.right c.requires.right; in_use = omega (arith, c.requires.others, c.work_places-pos.ensures.counts.complexes) }
 
 pub returns : goal.returns
 unfolding round_places

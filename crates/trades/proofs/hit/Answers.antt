@@ -9,22 +9,14 @@ use Rattle.trades.proofs.HitsLaws.{hit-law}
 use Rattle.trades.proofs.hit.Goals as goal
 
 pub regular_at-o-requires : goal.regular_at-o-requires
-regular_at-o-requires c = let w = regulars-few c.args.numbers.now in record { whole = c.requires.whole; place = omega arith }
+regular_at-o-requires c = let w = regulars-few c.args.numbers.now in omega arith
 
 pub pairing_of-p-requires : goal.pairing_of-p-requires
-pairing_of-p-requires c = record { whole = c.requires.whole; right = c.requires.right }
+pairing_of-p-requires c = c.requires.right
 
 pub trade_at_price-taken-requires : goal.trade_at_price-taken-requires
 trade_at_price-taken-requires c =
-    record { whole = c.fill_order.auto.numbers ∙ c.requires.whole; right = c.fill_order.ensures.counts.right c.requires.right }
-
-pub place_or_end-j-requires : goal.place_or_end-j-requires
-place_or_end-j-requires c =
-    c.trade_at_price-taken.auto.numbers ∙ c.fill_order.auto.numbers ∙ c.requires.whole
-
-pub pair_off-requires : goal.pair_off-requires
-pair_off-requires c =
-    c.trade_at_price-taken.auto.numbers ∙ c.fill_order.auto.numbers ∙ c.requires.whole
+    c.fill_order.ensures.counts.right c.requires.right
 
 pub returns : goal.returns
 returns c =

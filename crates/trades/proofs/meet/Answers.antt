@@ -9,11 +9,11 @@ use Rattle.trades.proofs.meet.Goals as goal
 
 pub regular_at-o-requires : goal.regular_at-o-requires
 regular_at-o-requires c = let w = regulars-few c.args.numbers.now in
-    record { whole = c.requires.whole; place = omega (arith, c.requires.first) }
+    omega (arith, c.requires.first)
 
 pub trade_with-requires : goal.trade_with-requires
 trade_with-requires c =
-    record { whole = c.fill_order.auto.numbers ∙ c.requires.whole; in_use = rw c.fill_order.ensures.counts.regulars c.requires.second }
+    rw c.fill_order.ensures.counts.regulars c.requires.second
 
 pub returns : goal.returns
 returns c =

@@ -11,13 +11,12 @@ use Rattle.trades.proofs.pairing_of.Goals as goal
 pub best_regular-best-requires : goal.best_regular-best-requires
 best_regular-best-requires c =
     let h = leg-in c.parent_of-c.result c.args.series (rw (← c.parent_of-c.ensures) at (parent-legs c.args.numbers.now c.args.l)) in
-    record { whole = c.requires.whole; right = c.requires.right; series = rw c.other_leg-leg.ensures h.0; side = rw c.opposite_of-other.ensures (opposite-in _) }
+    record { right = c.requires; series = rw c.other_leg-leg.ensures h.0; side = rw c.opposite_of-other.ensures (opposite-in _) }
 
 pub clear_price-clear-requires : goal.clear_price-clear-requires
 clear_price-clear-requires c =
     let h = leg-in c.parent_of-c.result c.args.series (rw (← c.parent_of-c.ensures) at (parent-legs c.args.numbers.now c.args.l)) in
     record {
-      whole = c.requires.whole;
       best = c.best_regular-best.ensures;
       series = rw c.other_leg-leg.ensures h.0;
       side = rw c.opposite_of-other.ensures (opposite-in _);

@@ -9,15 +9,11 @@ each : {A B : Type 0} → A × B → record { result_after : A; counts : B }
 each h = record { result_after = h.0; counts = h.1 }
 
 pub loop-left-init : goal.loop-left-init
-loop-left-init c = taking-start _ _ _ _ _ _ _ _ c.requires.whole
+loop-left-init c = taking-start _ _ _ _ _ _ _ _ c.told-numbers
 
 pub first_for-found-requires : goal.first_for-found-requires
 first_for-found-requires c =
-    record { whole = c.loop-left.invariant.whole; right = c.loop-left.invariant.counts.right c.requires.right }
-
-pub shape_of-numbers-in_default : goal.shape_of-numbers-in_default
-shape_of-numbers-in_default c =
-    c.loop-left.invariant.whole ∙ sym c.requires.whole
+    c.loop-left.invariant.counts.right c.requires
 
 pub shape_of-out-in_default : goal.shape_of-out-in_default
 shape_of-out-in_default c = taking-room c.loop-left.invariant
@@ -28,11 +24,8 @@ returns-in_default c =
 
 pub trade_with-pos-requires : goal.trade_with-pos-requires
 trade_with-pos-requires c =
-    record {
-      whole = c.loop-left.invariant.whole;
-      in_use = taking-used c.loop-left.invariant _ _ _ _ c.loop-left-test.true c.opposite_of-other.ensures (sym c.in-At.is ∙ c.first_for-found.ensures)
-          _ c.shown_size.ensures c.at_most-k.ensures;
-    }
+    taking-used c.loop-left.invariant _ _ _ _ c.loop-left-test.true c.opposite_of-other.ensures (sym c.in-At.is ∙ c.first_for-found.ensures)
+          _ c.shown_size.ensures c.at_most-k.ensures
 
 pub overflow_sub-left : goal.overflow_sub-left
 overflow_sub-left c = omega (arith, c.at_most-k.ensures)
@@ -45,10 +38,7 @@ loop-left-smaller c =
 pub loop-left-preserved : goal.loop-left-preserved
 loop-left-preserved c =
     taking-turn c.loop-left.invariant _ _ _ _ c.loop-left-test.true c.opposite_of-other.ensures (sym c.in-At.is ∙ c.first_for-found.ensures)
-    _ c.shown_size.ensures c.at_most-k.ensures _ _ _ c.trade_with-pos.auto.numbers (c.trade_with-pos.ensures.result_after, c.trade_with-pos.ensures.counts)
-
-pub shape_of-numbers : goal.shape_of-numbers
-shape_of-numbers c = c.loop-left.invariant.whole ∙ sym c.requires.whole
+    _ c.shown_size.ensures c.at_most-k.ensures _ _ _ (omega arith) (c.trade_with-pos.ensures.result_after, c.trade_with-pos.ensures.counts)
 
 pub shape_of-out : goal.shape_of-out
 shape_of-out c = taking-room c.loop-left.invariant

@@ -7,13 +7,13 @@ use Rattle.trades.proofs.Trades.{trade-law}
 use Rattle.trades.proofs.trade_with.Goals as goal
 
 pub regular_at-m-requires : goal.regular_at-m-requires
-regular_at-m-requires c = let w = regulars-few c.args.numbers.now in record { whole = c.requires.whole; place = omega arith }
+regular_at-m-requires c = let w = regulars-few c.args.numbers.now in omega arith
 
 pub returns : goal.returns
 returns c =
     record {
       result_after = trade-law _ _ _ _ (venue_of c.args.numbers.now) _ _ _ _ _ _
-          (c.regular_at-m.ensures ∙ sym (regular-at c.args.numbers.now c.args.j c.requires.in_use)) c.fill_order.ensures.numbers_after
+          (c.regular_at-m.ensures ∙ sym (regular-at c.args.numbers.now c.args.j c.requires)) c.fill_order.ensures.numbers_after
           c.emit_trade.ensures;
       counts = c.fill_order.ensures.counts;
     }

@@ -15,9 +15,6 @@ bounds-numbers-s c = let e = ap length c.loop-s.invariant.1 ∙ open-length _ in
 pub loop-s-preserved : goal.loop-s-preserved
 loop-s-preserved c = (omega arith, open_next _ _ c.loop-s.invariant.1)
 
-pub slice_bounds-base_figures-end : goal.slice_bounds-base_figures-end
-slice_bounds-base_figures-end c = let e : length c.loop-s.numbers ≡ 1393 = ap length c.loop-s.invariant.1 ∙ open-length _ in search rules
-
 pub base_figures-requires : goal.base_figures-requires
 base_figures-requires c = let e = ap length c.loop-s.invariant.1 ∙ open-length _ in search rules
 

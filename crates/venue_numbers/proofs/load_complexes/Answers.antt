@@ -11,25 +11,22 @@ use Rattle.venue_numbers.proofs.Loaded.{complexes-first, complexes-next, complex
 use Rattle.venue_numbers.proofs.load_complexes.Goals as goal
 
 pub loop-i-init : goal.loop-i-init
-loop-i-init c = (omega arith, complexes-first _ _ c.requires.whole)
+loop-i-init c = (omega arith, complexes-first _ _ c.told-numbers)
 
 pub bounds-numbers-777 : goal.bounds-numbers-777
 bounds-numbers-777 c = let z = c.loop-i.invariant.1.long in omega arith
 
-pub shape_of-numbers-then-o-eq0 : goal.shape_of-numbers-then-o-eq0
-shape_of-numbers-then-o-eq0 c = simp length-set (c.loop-i.invariant.1.long ∙ sym c.requires.whole)
-
 pub returns-then-o-eq0 : goal.returns-then-o-eq0
 returns-then-o-eq0 c = let n : length c.args.l ≡ 32 = search rules in
-    complexes-last _ _ _ _ c.loop-i.invariant.1 n (omega arith) (free-after holds_complex no_complex _ c.args.l c.loop-i.i c.requires.placed (ap not (eq-eqb _ _ c.if-o-eq0.true)))
+    complexes-last _ _ _ _ c.loop-i.invariant.1 n (omega arith) (free-after holds_complex no_complex _ c.args.l c.loop-i.i c.requires (ap not (eq-eqb _ _ c.if-o-eq0.true)))
 
 pub write_complex-requires : goal.write_complex-requires
-write_complex-requires c = record { whole = c.loop-i.invariant.1.long; place = omega arith }
+write_complex-requires c = omega arith
 
 pub loop-i-preserved : goal.loop-i-preserved
 loop-i-preserved c = (
   omega arith,
-  complexes-next _ _ _ _ _ c.requires.placed
+  complexes-next _ _ _ _ _ c.requires
       c.loop-i.invariant.1
       c.loop-i-test.true _ refl
       (ap not (ne_eqb _ _ c.if-o-eq0.false)) c.write_complex.ensures.1
@@ -38,9 +35,6 @@ loop-i-preserved c = (
 
 pub bounds-numbers-777-2 : goal.bounds-numbers-777-2
 bounds-numbers-777-2 c = let z = c.loop-i.invariant.1.long in omega arith
-
-pub shape_of-numbers : goal.shape_of-numbers
-shape_of-numbers c = simp length-set (c.loop-i.invariant.1.long ∙ sym c.requires.whole)
 
 pub returns : goal.returns
 returns c = let n : length c.args.l ≡ 32 = search rules in

@@ -8,18 +8,15 @@ use Rattle.venue_numbers.proofs.Loaded.{legging-first, legging-next, legging-las
 use Rattle.venue_numbers.proofs.load_leggings.Goals as goal
 
 pub loop-i-init : goal.loop-i-init
-loop-i-init c = (omega arith, legging-first _ _ c.requires)
+loop-i-init c = (omega arith, legging-first _ _ c.told-numbers)
 
 pub put_legging-requires : goal.put_legging-requires
-put_legging-requires c = record { whole = c.loop-i.invariant.1.long; place = omega arith }
+put_legging-requires c = omega arith
 
 pub loop-i-preserved : goal.loop-i-preserved
 unfolding placed
 loop-i-preserved c = let n : length c.args.l ≡ 16 = search rules in
-    (omega arith, legging-next _ _ _ _ _ c.loop-i.invariant.1 c.loop-i-test.true n _ refl c.put_legging.auto.numbers c.put_legging.ensures.numbers_after c.put_legging.ensures.counts)
-
-pub shape_of-numbers : goal.shape_of-numbers
-shape_of-numbers c = c.loop-i.invariant.1.long ∙ sym c.requires
+    (omega arith, legging-next _ _ _ _ _ c.loop-i.invariant.1 c.loop-i-test.true n _ refl (omega arith) c.put_legging.ensures.numbers_after c.put_legging.ensures.counts)
 
 pub returns : goal.returns
 returns c = let m = c.loop-i.invariant.1 in

@@ -11,25 +11,22 @@ use Rattle.venue_numbers.proofs.Loaded.{regulars-first, regulars-next, regulars-
 use Rattle.venue_numbers.proofs.load_regulars.Goals as goal
 
 pub loop-i-init : goal.loop-i-init
-loop-i-init c = (omega arith, regulars-first _ _ c.requires.whole)
+loop-i-init c = (omega arith, regulars-first _ _ c.told-numbers)
 
 pub bounds-numbers-776 : goal.bounds-numbers-776
 bounds-numbers-776 c = let z = c.loop-i.invariant.1.long in omega arith
 
-pub shape_of-numbers-then-o-eq0 : goal.shape_of-numbers-then-o-eq0
-shape_of-numbers-then-o-eq0 c = simp length-set (c.loop-i.invariant.1.long ∙ sym c.requires.whole)
-
 pub returns-then-o-eq0 : goal.returns-then-o-eq0
 returns-then-o-eq0 c = let n : length c.args.l ≡ 128 = search rules in
-    regulars-last _ _ _ _ c.loop-i.invariant.1 n (omega arith) (free-after holds_regular no_regular _ c.args.l c.loop-i.i c.requires.placed (ap not (eq-eqb _ _ c.if-o-eq0.true)))
+    regulars-last _ _ _ _ c.loop-i.invariant.1 n (omega arith) (free-after holds_regular no_regular _ c.args.l c.loop-i.i c.requires (ap not (eq-eqb _ _ c.if-o-eq0.true)))
 
 pub write_regular-requires : goal.write_regular-requires
-write_regular-requires c = record { whole = c.loop-i.invariant.1.long; place = omega arith }
+write_regular-requires c = omega arith
 
 pub loop-i-preserved : goal.loop-i-preserved
 loop-i-preserved c = (
   omega arith,
-  regulars-next _ _ _ _ _ c.requires.placed
+  regulars-next _ _ _ _ _ c.requires
       c.loop-i.invariant.1
       c.loop-i-test.true _ refl
       (ap not (ne_eqb _ _ c.if-o-eq0.false)) c.write_regular.ensures,
@@ -37,9 +34,6 @@ loop-i-preserved c = (
 
 pub bounds-numbers-776-2 : goal.bounds-numbers-776-2
 bounds-numbers-776-2 c = let z = c.loop-i.invariant.1.long in omega arith
-
-pub shape_of-numbers : goal.shape_of-numbers
-shape_of-numbers c = simp length-set (c.loop-i.invariant.1.long ∙ sym c.requires.whole)
 
 pub returns : goal.returns
 returns c = let n : length c.args.l ≡ 128 = search rules in

@@ -9,20 +9,14 @@ use borrow.Author.Rules.{rules}
 use Rattle.venue_numbers.proofs.load_traffic.Goals as goal
 
 pub loop-i-init : goal.loop-i-init
-loop-i-init c = (omega arith, generations-first _ _ c.requires)
+loop-i-init c = (omega arith, generations-first _ _ c.told-numbers)
 
 pub put_generations-requires : goal.put_generations-requires
-put_generations-requires c = record { whole = c.loop-i.invariant.1.long; series = omega arith }
+put_generations-requires c = omega arith
 
 pub loop-i-preserved : goal.loop-i-preserved
 loop-i-preserved c = let n : length c.args.l ≡ 8 = search rules in
-    (omega arith, generations-next _ _ _ _ _ c.loop-i.invariant.1 c.loop-i-test.true n _ refl c.put_generations.auto.numbers c.put_generations.ensures.numbers_after c.put_generations.ensures.counts)
-
-pub put_reached-requires : goal.put_reached-requires
-put_reached-requires c = c.loop-i.invariant.1.long
-
-pub shape_of-numbers : goal.shape_of-numbers
-shape_of-numbers c = c.put_reached.auto.numbers ∙ c.loop-i.invariant.1.long ∙ sym c.requires
+    (omega arith, generations-next _ _ _ _ _ c.loop-i.invariant.1 c.loop-i-test.true n _ refl (omega arith) c.put_generations.ensures.numbers_after c.put_generations.ensures.counts)
 
 pub returns : goal.returns
 returns c = let n : length c.args.l ≡ 8 = search rules in

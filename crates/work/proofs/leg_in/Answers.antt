@@ -9,15 +9,15 @@ use Rattle.work.proofs.leg_in.Goals as goal
 
 pub complex_at-c-requires : goal.complex_at-c-requires
 complex_at-c-requires c = let z = complexes-few c.args.numbers.now in
-    record { whole = c.requires.whole; place = omega (arith, c.requires.in_use) }
+    omega (arith, c.requires.in_use)
 
 pub trade_at_price-first-requires : goal.trade_at_price-first-requires
-trade_at_price-first-requires c = let p = c.requires in record { whole = p.whole; right = p.right }
+trade_at_price-first-requires c = let p = c.requires in p.right
 
 pub trade_at_price-second-requires : goal.trade_at_price-second-requires
 trade_at_price-second-requires c =
     let p = c.requires in
-    record { whole = c.trade_at_price-first.auto.numbers ∙ p.whole; right = c.trade_at_price-first.ensures.counts.right p.right }
+    c.trade_at_price-first.ensures.counts.right p.right
 
 pub returns : goal.returns
 returns c =

@@ -10,31 +10,23 @@ use Rattle.work.proofs.LegInLaws.{leg-stop, leg-short, leg-turn}
 use Rattle.work.proofs.leg_in_all.Goals as goal
 
 pub loop-turns-init : goal.loop-turns-init
-loop-turns-init c = doing-start _ _ _ _ _ c.requires.whole refl
+loop-turns-init c = doing-start _ _ _ _ _ c.told-numbers refl
 
 pub complex_at-c-requires : goal.complex_at-c-requires
-complex_at-c-requires c = let z = complexes-few c.loop-turns.numbers in record {
-  whole = c.loop-turns.invariant.whole;
-  place = omega (arith, c.loop-turns.invariant.counts.complexes, c.requires.in_use);
-}
+complex_at-c-requires c = let z = complexes-few c.loop-turns.numbers in omega (arith, c.loop-turns.invariant.counts.complexes, c.requires.in_use)
 
 pub taken_at-taken-requires : goal.taken_at-taken-requires
 taken_at-taken-requires c =
-    record { whole = c.loop-turns.invariant.whole; right = c.loop-turns.invariant.counts.right c.requires.right; legs = subst LegsIn (sym c.complex_at-c.ensures) (legs-in c.loop-turns.numbers c.args.i) }
+    record { right = c.loop-turns.invariant.counts.right c.requires.right; legs = subst LegsIn (sym c.complex_at-c.ensures) (legs-in c.loop-turns.numbers c.args.i) }
 
 pub can_leg_in-requires : goal.can_leg_in-requires
 can_leg_in-requires c =
     record {
-      whole = c.loop-turns.invariant.whole;
       taken = c.taken_at-taken.ensures;
       legs = subst LegsIn (sym c.complex_at-c.ensures)
           (legs-in c.loop-turns.numbers c.args.i);
       figures = (c.loop-turns.invariant.counts.right c.requires.right).marked.figures;
     }
-
-pub shape_of-numbers-then-not-can_leg_in : goal.shape_of-numbers-then-not-can_leg_in
-shape_of-numbers-then-not-can_leg_in c = c.loop-turns.invariant.whole
-    ∙ sym c.requires.whole
 
 pub shape_of-out-then-not-can_leg_in : goal.shape_of-out-then-not-can_leg_in
 shape_of-out-then-not-can_leg_in c = doing-room c.loop-turns.invariant
@@ -48,10 +40,6 @@ returns-then-not-can_leg_in c =
           (off _ _ c.can_leg_in.ensures c.if-not-can_leg_in.true-raw)));
       counts = c.loop-turns.invariant.counts;
     }
-
-pub shape_of-numbers-then-k-eq0 : goal.shape_of-numbers-then-k-eq0
-shape_of-numbers-then-k-eq0 c =
-    c.loop-turns.invariant.whole ∙ sym c.requires.whole
 
 pub shape_of-out-then-k-eq0 : goal.shape_of-out-then-k-eq0
 shape_of-out-then-k-eq0 c = doing-room c.loop-turns.invariant
@@ -69,7 +57,7 @@ returns-then-k-eq0 c =
 pub leg_in-pos-requires : goal.leg_in-pos-requires
 leg_in-pos-requires c =
     let p = c.requires in
-    record { whole = c.loop-turns.invariant.whole; right = c.loop-turns.invariant.counts.right p.right; in_use = omega (arith, c.loop-turns.invariant.counts.complexes, p.in_use) }
+    record { right = c.loop-turns.invariant.counts.right p.right; in_use = omega (arith, c.loop-turns.invariant.counts.complexes, p.in_use) }
 
 pub loop-turns-preserved : goal.loop-turns-preserved
 loop-turns-preserved c =
@@ -77,10 +65,7 @@ loop-turns-preserved c =
     (repeat-turn _ _ _ _ _ (omega (arith, c.loop-turns-test.true))
     (leg-turn _ _ c.taken_at-taken.result c.taken_at-taken.ensures c.args.i (c.complex_at-c.ensures ∙ sym (complex-at c.loop-turns.numbers c.args.i (omega (arith, c.loop-turns.invariant.counts.complexes, c.requires.in_use))))
     (on _ _ c.can_leg_in.ensures c.if-not-can_leg_in.false-raw) _ (c.units_in-k.ensures _ c.taken_at-taken.ensures) c.if-k-eq0.false))
-    c.leg_in-pos.auto.numbers c.leg_in-pos.ensures.result_after c.leg_in-pos.ensures.counts
-
-pub shape_of-numbers : goal.shape_of-numbers
-shape_of-numbers c = c.loop-turns.invariant.whole ∙ sym c.requires.whole
+    (omega arith) c.leg_in-pos.ensures.result_after c.leg_in-pos.ensures.counts
 
 pub shape_of-out : goal.shape_of-out
 shape_of-out c = doing-room c.loop-turns.invariant

@@ -10,13 +10,13 @@ use Rattle.work.proofs.work.Goals as goal
 
 pub complex_at-c-requires : goal.complex_at-c-requires
 complex_at-c-requires c = let z = complexes-few c.args.numbers.now in
-    record { whole = c.requires.whole; place = omega (arith, c.requires.in_use) }
+    omega (arith, c.requires.in_use)
 
 pub returns-then-c-eq0 : goal.returns-then-c-eq0
 returns-then-c-eq0 c = record { result_after = work-gone c.args.i _ _ (c.complex_at-c.ensures ∙ sym (complex-at c.args.numbers.now c.args.i c.requires.in_use)) _ _ c.if-c-eq0.true; counts = record { regulars = refl; complexes = refl; right = λ h. h } }
 
 pub any_closed-requires : goal.any_closed-requires
-any_closed-requires c = (c.requires.whole, subst LegsIn (sym c.complex_at-c.ensures) (legs-in c.args.numbers.now c.args.i))
+any_closed-requires c = subst LegsIn (sym c.complex_at-c.ensures) (legs-in c.args.numbers.now c.args.i)
 
 pub returns-then-any_closed : goal.returns-then-any_closed
 returns-then-any_closed c = record {
@@ -31,12 +31,11 @@ cross_all-crossed-requires c = c.requires
 
 pub touch-touched-requires : goal.touch-touched-requires
 touch-touched-requires c =
-    record { whole = c.cross_all-crossed.auto.numbers ∙ c.requires.whole; right = c.cross_all-crossed.ensures.counts.right c.requires.right; in_use = omega (arith, c.cross_all-crossed.ensures.counts.complexes, c.requires.in_use) }
+    record { right = c.cross_all-crossed.ensures.counts.right c.requires.right; in_use = omega (arith, c.cross_all-crossed.ensures.counts.complexes, c.requires.in_use) }
 
 pub leg_in_all-requires : goal.leg_in_all-requires
 leg_in_all-requires c =
     record {
-      whole = c.touch-touched.auto.numbers ∙ c.cross_all-crossed.auto.numbers ∙ c.requires.whole;
       right = c.touch-touched.ensures.counts.right (c.cross_all-crossed.ensures.counts.right c.requires.right);
       in_use = omega (arith, c.touch-touched.ensures.counts.complexes, c.cross_all-crossed.ensures.counts.complexes, c.requires.in_use);
     }
