@@ -10,7 +10,7 @@ ghost use Rattle.rules.specs.Prices.{shown_size, displayed_price, weighed, near_
 ghost use Rattle.rules.specs.Standing.{verdict_number};
 ghost use Rattle.rules.specs.Refusals.{decoded_number};
 
-use rules::{Cause, Complex, Decoded, Listed, Message, Regular, Venue, Verdict};
+use rules::{Cause, Complex, Decoded, Listed, Message, Regular, Venue};
 
 // The venue with no orders, all series open and no away prices.
 pub fn fresh() -> Venue
@@ -241,13 +241,13 @@ pub fn cause_number(cause: Cause) -> u8
     n
 }
 
-// A verdict's number: 0, or its cause's.
-pub fn verdict_number(verdict: Verdict) -> u8
+// The number of what a test says: 0 where the order stands, else its cause's.
+pub fn verdict_number(verdict: Option<Cause>) -> u8
     ensures { result ≡ verdict_number verdict }
 {
     match verdict {
-        Verdict::Stands => 0,
-        Verdict::Fails(cause) => cause_number(cause),
+        None => 0,
+        Some(cause) => cause_number(cause),
     }
 }
 

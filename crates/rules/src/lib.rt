@@ -121,7 +121,8 @@ pub enum Decoded {
     Refused(u8),
 }
 
-// Why a legging order goes, in the order of the filing's (C)(4)(i) to (x).
+// Why a legging order goes, in the order of the filing's (C)(4)(i) to (x). The test of a legging order tells the cause for which it fails, and None where it
+// stands.
 #[derive(Clone, Copy, Debug, PartialEq, Eq)]
 pub enum Cause {
     Worse,
@@ -133,13 +134,6 @@ pub enum Cause {
     Replaced,
     Touched,
     NoUnit,
-}
-
-// What a test says of a legging order.
-#[derive(Clone, Copy, Debug, PartialEq, Eq)]
-pub enum Verdict {
-    Stands,
-    Fails(Cause),
 }
 
 // Free places (specs/Words.antt has the same names) ----------------------------------------------

@@ -14,7 +14,7 @@ ghost use Rattle.places.specs.Requirements.{RightNumbers, FiguredNumbers, Series
 
 use book::Found;
 use places::Level;
-use rules::{Complex, Legging, Regular, Venue, Verdict};
+use rules::{Complex, Legging, Regular, Venue};
 
 // Orders beside one another -------------------------------------------------------------------
 
@@ -191,10 +191,7 @@ fn legging_sound(numbers: &[u32], g: [[Level; 2]; 8], n: usize) -> bool
     if !has_home(numbers, l, (n / 2) as u8, (n % 2) as u8) {
         return false;
     }
-    let Verdict::Stands = settling::judge(numbers, g, n) else {
-        return false;
-    };
-    true
+    settling::judge(numbers, g, n).is_none()
 }
 
 // Every legging place is sound.
