@@ -121,6 +121,23 @@ pub enum Decoded {
     Refused(u8),
 }
 
+// Why a message is refused, by rising number: 1 to 8 and 11 to 14. Its number is the definition refusal_number's.
+#[derive(Clone, Copy, Debug, PartialEq, Eq)]
+pub enum Refusal {
+    Torn,
+    NoKind,
+    WrongLength,
+    OutOfRange,
+    IdTooLow,
+    OnClosed,
+    Full,
+    Unknown,
+    EditionTooLow,
+    InUse,
+    NoEditionLeft,
+    EqualRatios,
+}
+
 // Why a legging order goes, in the order of the filing's (C)(4)(i) to (x). The test of a legging order tells the cause for which it fails, and None where it
 // stands.
 #[derive(Clone, Copy, Debug, PartialEq, Eq)]
