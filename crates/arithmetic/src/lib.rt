@@ -8,9 +8,9 @@ ghost use Rattle.rules.specs.Messages.{length_of, message_form};
 ghost use Rattle.rules.specs.Records.{cause_number};
 ghost use Rattle.rules.specs.Prices.{shown_size, displayed_price, weighed, near_net, better, better_of, reaches};
 ghost use Rattle.rules.specs.Standing.{verdict_number};
-ghost use Rattle.rules.specs.Refusals.{decoded_number};
+ghost use Rattle.rules.specs.Refusals.{decoded_number, refusal_number};
 
-use rules::{Cause, Complex, Decoded, Listed, Message, Regular, Venue};
+use rules::{Cause, Complex, Decoded, Listed, Message, Refusal, Regular, Venue};
 
 // The venue with no orders, all series open and no away prices.
 pub fn fresh() -> Venue
@@ -87,28 +87,21 @@ pub fn place_of(series: u8, side: u8) -> usize
 pub fn lesser(a: u32, b: u32) -> u32
     ensures { result ≡ min a b }
 {
-    if a < b {
-        return a;
-    }
-    b
+    a.min(b)
 }
 
 // What an order shows: what is left of it but for its reserve.
 pub fn shown_size(o: Regular) -> u32
     ensures { result ≡ shown_size o }
 {
-    if o.quantity < o.reserve {
-        return 0;
-    }
-    o.quantity - o.reserve
+    o.quantity.saturating_sub(o.reserve)
 }
 
 // A complex order's limit, in 64 bits.
 pub fn limit_of(c: Complex) -> i64
     ensures { (result ≡ c.limit) × (nat_abs result ≤ 2147483648) }
 {
-    let n = c.limit;
-    n as i64
+    i64::from(c.limit)
 }
 
 // Sign × price of a leg.
@@ -213,32 +206,26 @@ pub fn length_of(kind: u16) -> u16
     0
 }
 
-// A cause's place among the causes, from 1 on: its number, but that the last one's is 10.
-fn cause_order(cause: Cause) -> u8
-    ensures { (if eqb result 9 then 10 else result) ≡ cause_number cause }
-{
-    match cause {
-        Cause::Worse => 1,
-        Cause::Unpaired => 2,
-        Cause::Executed => 3,
-        Cause::Withdrawn => 4,
-        Cause::OutOfBand => 5,
-        Cause::NotOpen => 6,
-        Cause::Replaced => 7,
-        Cause::Touched => 8,
-        Cause::NoUnit => 9,
-    }
-}
-
-// A cause's number, in two steps: of numbers that do not rise by one a compiler makes a table.
+// A cause's number, by its place among the causes. Of a match, or of discriminants with a gap, a compiler makes a table (host/legging/tests/read_only.rs).
 pub fn cause_number(cause: Cause) -> u8
     ensures { result ≡ cause_number cause }
 {
-    let n = cause_order(cause);
-    if n == 9 {
-        return 10;
+    let place = cause as u8;
+    if place < 8 {
+        return place + 1;
     }
-    n
+    10
+}
+
+// A refusal's number, by its place among the refusals, as cause_number finds a cause's: after 8 comes 11.
+pub fn refusal_number(refusal: Refusal) -> u8
+    ensures { result ≡ refusal_number refusal }
+{
+    let place = refusal as u8;
+    if place < 8 {
+        return place + 1;
+    }
+    place + 3
 }
 
 // The number of what a test says: 0 where the order stands, else its cause's.
@@ -370,8 +357,5 @@ pub fn is_one_to_one(c: Complex) -> bool
 pub fn less(q: u32, k: u32) -> u32
     ensures { result ≡ q - k }
 {
-    if q < k {
-        return 0;
-    }
-    q - k
+    q.saturating_sub(k)
 }
