@@ -2,7 +2,7 @@
 #![tactic(auto)]
 
 ghost use Rattle.std.specs.Prelude.{◌≡◌, ℕ, min, ◌+◌, ◌≤◌, ◌-◌, eqb, ℤ, pos, nat_abs, ◌+ℤ◌, if◌then◌else◌};
-ghost use Rattle.rules.specs.Words.{opposite, sign_times, place_of, fresh_venue, sell, is_price, is_quantity, is_ratio, one_to_one};
+ghost use Rattle.rules.specs.Words.{opposite, sign_times, place_of, fresh_venue, sell, is_price, is_quantity, is_ratio, one_to_one, within};
 ghost use Rattle.rules.specs.Settings.{base_figure, is_increment};
 ghost use Rattle.rules.specs.Messages.{length_of, message_form};
 ghost use Rattle.rules.specs.Records.{cause_number};
@@ -277,7 +277,7 @@ pub fn is_better_wide(side: u8, a: u64, b: u64) -> bool
 pub fn is_better(side: u8, a: u32, b: u32) -> bool
     ensures { result ≡ better side a b }
 {
-    is_better_wide(side, a as u64, b as u64)
+    is_better_wide(side, u64::from(a), u64::from(b))
 }
 
 // The better of two prices.
@@ -300,34 +300,35 @@ pub fn reaches_price(side: u8, p: u32, q: u32) -> bool
     p <= q
 }
 
-// A number is a price: 1 to 100000.
-pub fn is_price(n: u32) -> bool
-    ensures { result ≡ is_price n }
+// A number is one of 1 to the highest.
+fn is_up_to(highest: u32, n: u32) -> bool
+    ensures { result ≡ within 1 highest n }
 {
     if n == 0 {
         return false;
     }
-    n <= 100000
+    n <= highest
+}
+
+// A number is a price: 1 to 100000.
+pub fn is_price(n: u32) -> bool
+    ensures { result ≡ is_price n }
+{
+    is_up_to(100000, n)
 }
 
 // A number is a quantity: 1 to 10000.
 pub fn is_quantity(n: u32) -> bool
     ensures { result ≡ is_quantity n }
 {
-    if n == 0 {
-        return false;
-    }
-    n <= 10000
+    is_up_to(10000, n)
 }
 
 // A number is a ratio: 1 to 3.
 pub fn is_ratio(n: u8) -> bool
     ensures { result ≡ is_ratio n }
 {
-    if n == 0 {
-        return false;
-    }
-    n <= 3
+    is_up_to(3, u32::from(n))
 }
 
 // A number is an increment: 1, 5 or 10.
