@@ -2,15 +2,15 @@
 #![tactic(auto)]
 
 ghost use Rattle.std.specs.Prelude.{◌≡◌, ℕ, min, ◌+◌, ◌≤◌, ◌-◌, eqb, ℤ, pos, nat_abs, ◌+ℤ◌, if◌then◌else◌};
-ghost use Rattle.rules.specs.Words.{opposite, sign_times, place_of, fresh_venue, sell, is_price, is_quantity, is_ratio, one_to_one};
+ghost use Rattle.rules.specs.Words.{opposite, sign_times, place_of, fresh_venue, sell, is_price, is_quantity, is_ratio, one_to_one, within};
 ghost use Rattle.rules.specs.Settings.{base_figure, is_increment};
 ghost use Rattle.rules.specs.Messages.{length_of, message_form};
 ghost use Rattle.rules.specs.Records.{cause_number};
 ghost use Rattle.rules.specs.Prices.{shown_size, displayed_price, weighed, near_net, better, better_of, reaches};
 ghost use Rattle.rules.specs.Standing.{verdict_number};
-ghost use Rattle.rules.specs.Refusals.{decoded_number};
+ghost use Rattle.rules.specs.Refusals.{decoded_number, refusal_number};
 
-use rules::{Cause, Complex, Decoded, Listed, Message, Regular, Venue, Verdict};
+use rules::{Cause, Complex, Decoded, Listed, Message, Refusal, Regular, Venue};
 
 // The venue with no orders, all series open and no away prices.
 pub fn fresh() -> Venue
@@ -87,28 +87,21 @@ pub fn place_of(series: u8, side: u8) -> usize
 pub fn lesser(a: u32, b: u32) -> u32
     ensures { result ≡ min a b }
 {
-    if a < b {
-        return a;
-    }
-    b
+    a.min(b)
 }
 
 // What an order shows: what is left of it but for its reserve.
 pub fn shown_size(o: Regular) -> u32
     ensures { result ≡ shown_size o }
 {
-    if o.quantity < o.reserve {
-        return 0;
-    }
-    o.quantity - o.reserve
+    o.quantity.saturating_sub(o.reserve)
 }
 
 // A complex order's limit, in 64 bits.
 pub fn limit_of(c: Complex) -> i64
     ensures { (result ≡ c.limit) × (nat_abs result ≤ 2147483648) }
 {
-    let n = c.limit;
-    n as i64
+    i64::from(c.limit)
 }
 
 // Sign × price of a leg.
@@ -213,41 +206,35 @@ pub fn length_of(kind: u16) -> u16
     0
 }
 
-// A cause's place among the causes, from 1 on: its number, but that the last one's is 10.
-fn cause_order(cause: Cause) -> u8
-    ensures { (if eqb result 9 then 10 else result) ≡ cause_number cause }
-{
-    match cause {
-        Cause::Worse => 1,
-        Cause::Unpaired => 2,
-        Cause::Executed => 3,
-        Cause::Withdrawn => 4,
-        Cause::OutOfBand => 5,
-        Cause::NotOpen => 6,
-        Cause::Replaced => 7,
-        Cause::Touched => 8,
-        Cause::NoUnit => 9,
-    }
-}
-
-// A cause's number, in two steps: of numbers that do not rise by one a compiler makes a table.
+// A cause's number, by its place among the causes. Of a match, or of discriminants with a gap, a compiler makes a table (host/legging/tests/read_only.rs).
 pub fn cause_number(cause: Cause) -> u8
     ensures { result ≡ cause_number cause }
 {
-    let n = cause_order(cause);
-    if n == 9 {
-        return 10;
+    let place = cause as u8;
+    if place < 8 {
+        return place + 1;
     }
-    n
+    10
 }
 
-// A verdict's number: 0, or its cause's.
-pub fn verdict_number(verdict: Verdict) -> u8
+// A refusal's number, by its place among the refusals, as cause_number finds a cause's: after 8 comes 11.
+pub fn refusal_number(refusal: Refusal) -> u8
+    ensures { result ≡ refusal_number refusal }
+{
+    let place = refusal as u8;
+    if place < 8 {
+        return place + 1;
+    }
+    place + 3
+}
+
+// The number of what a test says: 0 where the order stands, else its cause's.
+pub fn verdict_number(verdict: Option<Cause>) -> u8
     ensures { result ≡ verdict_number verdict }
 {
     match verdict {
-        Verdict::Stands => 0,
-        Verdict::Fails(cause) => cause_number(cause),
+        None => 0,
+        Some(cause) => cause_number(cause),
     }
 }
 
@@ -290,7 +277,7 @@ pub fn is_better_wide(side: u8, a: u64, b: u64) -> bool
 pub fn is_better(side: u8, a: u32, b: u32) -> bool
     ensures { result ≡ better side a b }
 {
-    is_better_wide(side, a as u64, b as u64)
+    is_better_wide(side, u64::from(a), u64::from(b))
 }
 
 // The better of two prices.
@@ -313,34 +300,35 @@ pub fn reaches_price(side: u8, p: u32, q: u32) -> bool
     p <= q
 }
 
-// A number is a price: 1 to 100000.
-pub fn is_price(n: u32) -> bool
-    ensures { result ≡ is_price n }
+// A number is one of 1 to the highest.
+fn is_up_to(highest: u32, n: u32) -> bool
+    ensures { result ≡ within 1 highest n }
 {
     if n == 0 {
         return false;
     }
-    n <= 100000
+    n <= highest
+}
+
+// A number is a price: 1 to 100000.
+pub fn is_price(n: u32) -> bool
+    ensures { result ≡ is_price n }
+{
+    is_up_to(100000, n)
 }
 
 // A number is a quantity: 1 to 10000.
 pub fn is_quantity(n: u32) -> bool
     ensures { result ≡ is_quantity n }
 {
-    if n == 0 {
-        return false;
-    }
-    n <= 10000
+    is_up_to(10000, n)
 }
 
 // A number is a ratio: 1 to 3.
 pub fn is_ratio(n: u8) -> bool
     ensures { result ≡ is_ratio n }
 {
-    if n == 0 {
-        return false;
-    }
-    n <= 3
+    is_up_to(3, u32::from(n))
 }
 
 // A number is an increment: 1, 5 or 10.
@@ -370,8 +358,5 @@ pub fn is_one_to_one(c: Complex) -> bool
 pub fn less(q: u32, k: u32) -> u32
     ensures { result ≡ q - k }
 {
-    if q < k {
-        return 0;
-    }
-    q - k
+    q.saturating_sub(k)
 }

@@ -1,8 +1,7 @@
 // Removal of legging orders from the venue in its slice: those that fail go, with their records (68) by rising place.
 #![tactic(auto)]
 
-ghost use Rattle.std.specs.Prelude.{◌≡◌, ◌||◌, ℕ, eqb, length, ◌<◌};
-ghost use Rattle.rules.specs.declared.Verdict.TheVariants.{Fails};
+ghost use Rattle.std.specs.Prelude.{◌≡◌, ◌||◌, ℕ, eqb, Some, ◌<◌};
 ghost use Rattle.rules.specs.Removal.{remove, remove_of, fail_if};
 ghost use Rattle.records.specs.Seen.{seen};
 ghost use Rattle.records.specs.Stage.{stage, ◌does◌};
@@ -11,12 +10,12 @@ ghost use Rattle.removal.specs.Causes.{remove_place, verdict_by, verdict_in};
 ghost use Rattle.places.specs.Requirements.{PlacesReady};
 
 use places::Numbers;
-use rules::{Cause, Verdict};
+use rules::Cause;
 
 // What stands at place n goes; a free place stays as it is.
 fn remove_place(numbers: &mut Numbers, n: usize, cause: Cause, out: &mut [u8], at: usize) -> usize
     requires { n < 16 }
-    ensures result_after { stage (venue_of numbers.new) out.new result ≡ seen out.old at does remove_place n (Fails cause) (venue_of numbers.old) }
+    ensures result_after { stage (venue_of numbers.new) out.new result ≡ seen out.old at does remove_place n (Some cause) (venue_of numbers.old) }
     ensures counts { SameCounts numbers.old numbers.new }
 {
     let l = places::legging_at(numbers, n);
@@ -86,38 +85,38 @@ pub fn remove_at(
     remove_place(numbers, n2, cause, out, pos)
 }
 
-// The verdict of a number.
-pub fn verdict_by(x: u8) -> Verdict
+// The cause of a number; None where it is no cause's.
+pub fn verdict_by(x: u8) -> Option<Cause>
     ensures { result ≡ verdict_by x }
 {
     if x == 1 {
-        return Verdict::Fails(Cause::Worse);
+        return Some(Cause::Worse);
     }
     if x == 2 {
-        return Verdict::Fails(Cause::Unpaired);
+        return Some(Cause::Unpaired);
     }
     if x == 3 {
-        return Verdict::Fails(Cause::Executed);
+        return Some(Cause::Executed);
     }
     if x == 4 {
-        return Verdict::Fails(Cause::Withdrawn);
+        return Some(Cause::Withdrawn);
     }
     if x == 5 {
-        return Verdict::Fails(Cause::OutOfBand);
+        return Some(Cause::OutOfBand);
     }
     if x == 6 {
-        return Verdict::Fails(Cause::NotOpen);
+        return Some(Cause::NotOpen);
     }
     if x == 7 {
-        return Verdict::Fails(Cause::Replaced);
+        return Some(Cause::Replaced);
     }
     if x == 8 {
-        return Verdict::Fails(Cause::Touched);
+        return Some(Cause::Touched);
     }
     if x == 10 {
-        return Verdict::Fails(Cause::NoUnit);
+        return Some(Cause::NoUnit);
     }
-    Verdict::Stands
+    None
 }
 
 // The legging orders at the places that have a cause's number in `causes` go, each for that cause.
@@ -134,7 +133,7 @@ pub fn remove_by_causes(numbers: &mut Numbers, causes: u64, out: &mut [u8], at: 
         let x = (rest % 16) as u8;
         rest = rest / 16;
         let found = verdict_by(x);
-        let Verdict::Fails(cause) = found else {
+        let Some(cause) = found else {
             continue;
         };
         pos = remove_place(numbers, place, cause, out, pos);

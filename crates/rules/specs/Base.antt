@@ -1,6 +1,6 @@
 -- Notions that every section uses and that are not document 01's own: the first in rank, the first place that passes a test. The choice by
 -- a test is the library's.
-use Rattle.std.specs.Prelude.{Bool, true, false, not, ◌&&◌, List, [], ◌∷◌, ℕ, suc, eqb, if◌then◌else◌}
+use Rattle.std.specs.Prelude.{Bool, true, not, ◌&&◌, List, [], ◌∷◌, ℕ, suc, eqb, if◌then◌else◌}
 
 -- A place holds an order while its quantity is not 0; a price is there while it is not 0.
 abbrev pub held : ℕ → Bool

@@ -1,6 +1,6 @@
 -- Document 01, "Refusals", 1 to 8: "Checked in number order"; and document 02's, (d) 11 to 13: "checked after 4, in this order", (g) 14:
 -- "checked after 4 and 11 to 13". Where 01 names kind 1, kind 9 is meant too, and where it names kind 2, kind 10.
-use Rattle.std.specs.Prelude.{Bool, true, false, not, ◌&&◌, ◌||◌, List, ℕ, ◌%◌, leb, ltb, eqb, length, if◌then◌else◌}
+use Rattle.std.specs.Prelude.{Bool, true, false, not, ◌&&◌, ◌||◌, List, ℕ, ◌%◌, leb, ltb, eqb, length, if◌then◌else◌, Result, Ok, Err}
 use Rattle.rules.specs.declared.Regular.{Regular}
 use Rattle.rules.specs.declared.Complex.{Complex}
 use Rattle.rules.specs.declared.Venue.{Venue}
@@ -8,6 +8,9 @@ use Rattle.rules.specs.declared.Message.{Message}
 use Rattle.rules.specs.declared.Message.TheVariants.{Order, TwoLeg, Cancel, Away, Status, Sweep, Increment, Percent, LimitedSweep}
 use Rattle.rules.specs.declared.Decoded.{Decoded}
 use Rattle.rules.specs.declared.Decoded.TheVariants.{Taken, Refused}
+use Rattle.rules.specs.declared.Refusal.{Refusal}
+use Rattle.rules.specs.declared.Refusal.TheVariants.{Torn, NoKind, WrongLength, OutOfRange, IdTooLow, OnClosed, Full, Unknown}
+use Rattle.rules.specs.declared.Refusal.TheVariants.{EditionTooLow, InUse, NoEditionLeft, EqualRatios}
 use Rattle.rules.specs.Base.{held, all}
 use Rattle.rules.specs.Words.{closed, status_of, one_to_one, within, is_id, is_series, is_side, is_class, is_status, is_quantity, is_away}
 use Rattle.rules.specs.Words.{is_price, is_limit, is_ratio}
@@ -16,6 +19,38 @@ use Rattle.rules.specs.Bytes.{u8_at, length_field, kind_field}
 use Rattle.rules.specs.Messages.{length_of, message_of}
 use Rattle.rules.specs.Trading.{free_regular, free_complex}
 use Rattle.rules.specs.Complex.{any_closed, rests_regular, rests_complex}
+
+-- The papers' number of a refusal; each refusal has the name of the definition below that tells which messages meet it.
+abbrev pub refusal_number : Refusal → ℕ
+-- 1: "1 to 3 bytes left …, or length below 4 or above what is left"
+refusal_number Torn = 1
+-- 2: "kind not 1 to 6"
+refusal_number NoKind = 2
+-- 3: "length not its kind's"
+refusal_number WrongLength = 3
+-- 4: "field outside its range, both legs in one series", "price off the increment"
+refusal_number OutOfRange = 4
+-- 5: "id not above the last accepted (kinds 1, 2)"
+refusal_number IdTooLow = 5
+-- 6: "a series of the order is closed"
+refusal_number OnClosed = 6
+-- 7: "128 regular (kind 1) or 32 complex (kind 2) rest already"
+refusal_number Full = 7
+-- 8: "no resting order has the id (kind 3)"
+refusal_number Unknown = 8
+-- 11: "edition not above the last of either kind"
+refusal_number EditionTooLow = 11
+-- 12: "kind 7 for a series that isn't closed or has a resting order or leg"
+refusal_number InUse = 12
+-- 13: "32 editions held already"
+refusal_number NoEditionLeft = 13
+-- 14: "equal ratio bytes"
+refusal_number EqualRatios = 14
+
+-- the number that a test of a message tells: 0 where it finds no refusal, else the number of the refusal that it finds
+abbrev pub refused_number : Result (Unit {0}) Refusal → ℕ
+refused_number (Ok t) = 0
+refused_number (Err r) = refusal_number r
 
 -- 1 to 4, and 14: of the bytes alone ----------------------------------------------------------
 

@@ -20,7 +20,7 @@ ghost use Rattle.places.specs.Requirements.{IncrementReady};
 use arithmetic::limit_of;
 use levels::{LegSides, TakenLevels};
 use places::{Level, Numbers};
-use rules::{Cause, Complex, Legging, Verdict};
+use rules::{Cause, Complex, Legging};
 
 // A price p at side d of series s, displayed.
 pub fn displayed_in_series(numbers: &Numbers, s: u8, d: u8, p: u32) -> u64
@@ -82,7 +82,7 @@ pub fn can_pair(numbers: &Numbers, taken: TakenLevels, c: Complex, s: u8, d: u8,
     false
 }
 
-// The test of a legging order of c at side d of series s: of the causes that apply, the first of 1, 5, 2, 6.
+// The test of a legging order of c at side d of series s: of the causes that apply, the first of 1, 5, 2, 6; None where it stands.
 pub fn test_order(
     numbers: &Numbers,
     sides: LegSides,
@@ -90,34 +90,34 @@ pub fn test_order(
     s: u8,
     d: u8,
     l: Legging,
-) -> Verdict
+) -> Option<Cause>
     requires { SidesReady numbers.now sides c s d }
     ensures { result ≡ verdict_of (venue_of numbers.now) c s d l }
 {
     if !displayed_no_worse(numbers, sides.own, s, d, l.price) {
-        return Verdict::Fails(Cause::Worse);
+        return Some(Cause::Worse);
     }
     let taken = sides.taken;
     if !prices::in_band(numbers, taken, c, limit_of(c)) {
-        return Verdict::Fails(Cause::OutOfBand);
+        return Some(Cause::OutOfBand);
     }
     if !can_pair(numbers, taken, c, s, d, l) {
-        return Verdict::Fails(Cause::Unpaired);
+        return Some(Cause::Unpaired);
     }
     if !prices::both_open(numbers, c) {
-        return Verdict::Fails(Cause::NotOpen);
+        return Some(Cause::NotOpen);
     }
-    Verdict::Stands
+    None
 }
 
-// The test of what stands at place n.
-pub fn judge(numbers: &Numbers, g: [[Level; 2]; 8], n: usize) -> Verdict
+// The test of what stands at place n: the cause for which it fails, None where it stands.
+pub fn judge(numbers: &Numbers, g: [[Level; 2]; 8], n: usize) -> Option<Cause>
     requires { GridPlaceReady numbers.now g n }
     ensures { result ≡ verdict (venue_of numbers.now) n (get_or (venue_of numbers.now).legging n no_legging) }
 {
     let l = places::legging_at(numbers, n);
     if l.quantity == 0 {
-        return Verdict::Stands;
+        return None;
     }
     let c = prices::parent_of(numbers, l);
     let s = (n / 2) as u8;
@@ -196,9 +196,9 @@ pub fn others_stand(numbers: &Numbers, g: [[Level; 2]; 8], m: usize) -> bool
         if l.quantity == 0 {
             continue;
         }
-        let Verdict::Stands = judge(numbers, g, place) else {
+        if judge(numbers, g, place).is_some() {
             return false;
-        };
+        }
     }
     true
 }

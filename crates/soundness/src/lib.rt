@@ -14,7 +14,7 @@ ghost use Rattle.places.specs.Requirements.{IncrementReady, RightSeries};
 
 use book::Found;
 use places::{Level, Numbers};
-use rules::{Complex, Legging, Regular, Venue, Verdict};
+use rules::{Complex, Legging, Regular, Venue};
 
 // Orders beside one another -------------------------------------------------------------------
 
@@ -188,10 +188,7 @@ fn legging_sound(numbers: &Numbers, g: [[Level; 2]; 8], n: usize) -> bool
     if !has_home(numbers, l, (n / 2) as u8, (n % 2) as u8) {
         return false;
     }
-    let Verdict::Stands = settling::judge(numbers, g, n) else {
-        return false;
-    };
-    true
+    settling::judge(numbers, g, n).is_none()
 }
 
 // Every legging place is sound.
