@@ -1,27 +1,26 @@
 -- The kinds of a set's records: their lengths, what each tells, and its part.
 use Rattle.std.specs.Prelude.{if◌then◌else◌}
 use mathlib.Core.Path.{◌≡◌, refl, sym, ap, ◌∙◌}
-use mathlib.Core.Bool.{Bool, true, false, not, ◌&&◌, ◌||◌}
+use mathlib.Core.Bool.{Bool, true, false, ◌||◌}
 use mathlib.Core.List.{List}
 use Prim.Native.Nat.{ℕ, ◌≤◌, ◌<◌, ◌+◌}
 use native.Mathlib.Omega.{arith}
-use lib.Dec.{eqb, ltb, leb}
+use lib.Dec.{eqb}
 use lib.ListN.{length, drop}
 use lib.Seq.{drop-drop}
 use borrow.Author.Tests.{eqb-true, eqb-false, eq-eqb, ne_eqb}
-use Rattle.rules.specs.Bytes.{kind_field, u8_at, u32_at}
+use Rattle.rules.specs.Bytes.{kind_field}
 use Rattle.rules.specs.Bytes.{u16_at, length_field}
 use Rattle.rules.specs.Messages.{length_of}
 use Rattle.rules.specs.Refusals.{torn}
 use Rattle.rules.proofs.RefusalsLaws.{whole}
 use Rattle.wire.proofs.Numbers.{u16-here}
 use Rattle.reader.specs.declared.Head.TheVariants.{End, Torn, Message}
-use Rattle.reader.specs.Head.{head_of, head_at, head_length}
-use Rattle.set_check.specs.declared.Front.{Front}
+use Rattle.reader.specs.Head.{head_of, head_length}
 use Rattle.set_check.specs.declared.Front.TheVariants.{Broken, Record}
 use Rattle.set_check.specs.declared.Front.TheVariants as F
 use Rattle.set_check.specs.Order.{front_of}
-use Rattle.sets.specs.Set.{set_length, part, sort_key, tells_edition, tells_regular, tells_complex, tells_legging, tells_generation, of_whole, of_short}
+use Rattle.sets.specs.Set.{set_length, tells_regular, tells_complex}
 
 -- Lengths -------------------------------------------------------------------------------------
 
