@@ -1,28 +1,26 @@
 -- The kinds of a set's records: their lengths, what each tells, and its part.
 use Rattle.std.specs.Prelude.{if◌then◌else◌}
 use mathlib.Core.Path.{◌≡◌, refl, sym, ap, ◌∙◌}
-use mathlib.Core.Bool.{Bool, true, false, not, ◌&&◌, ◌||◌}
+use mathlib.Core.Bool.{Bool, true, false, ◌||◌}
 use mathlib.Core.List.{List}
 use Prim.Native.Nat.{ℕ, ◌≤◌, ◌<◌, ◌+◌}
 use native.Mathlib.Omega.{arith}
-use lib.Dec.{eqb, ltb, leb}
+use lib.Dec.{eqb}
 use lib.ListN.{length, drop}
 use lib.Seq.{drop-drop}
 use borrow.Author.Tests.{eqb-true, eqb-false, eq-eqb, ne_eqb}
-use Rattle.rules.specs.Bytes.{kind_field, u8_at, u32_at}
+use Rattle.rules.specs.Bytes.{kind_field}
 use Rattle.rules.specs.Bytes.{u16_at, length_field}
 use Rattle.rules.specs.Messages.{length_of}
 use Rattle.rules.specs.Refusals.{torn}
 use Rattle.rules.proofs.RefusalsLaws.{whole}
 use Rattle.wire.proofs.Numbers.{u16-here}
 use Rattle.reader.specs.declared.Head.TheVariants.{End, Torn, Message}
-use Rattle.sets.proofs.Rows.{Well}
-use Rattle.reader.specs.Head.{head_of, head_at, head_length}
-use Rattle.set_check.specs.declared.Front.{Front}
+use Rattle.reader.specs.Head.{head_of, head_length}
 use Rattle.set_check.specs.declared.Front.TheVariants.{Broken, Record}
 use Rattle.set_check.specs.declared.Front.TheVariants as F
 use Rattle.set_check.specs.Order.{front_of}
-use Rattle.sets.specs.Set.{set_length, part, sort_key, tells_edition, tells_regular, tells_complex, tells_legging, tells_generation, of_whole, of_short}
+use Rattle.sets.specs.Set.{set_length, tells_regular, tells_complex}
 
 -- Lengths -------------------------------------------------------------------------------------
 
@@ -138,18 +136,18 @@ module _ (m : List ℕ) (at : ℕ) where
   kind-here = u16-here 2 (drop at m) ∙ ap (λ (l : List ℕ). u16_at l 0) (drop-drop 2 at m) ∙ sym (u16-here (at + 2) m)
 
 -- the records of orders are long enough for their fields
-pub regular-long : (r : List ℕ) → Well r → tells_regular r ≡ true → 18 ≤ length r
+pub regular-long : (r : List ℕ) → set_length (kind_field r) ≡ length r → tells_regular r ≡ true → 18 ≤ length r
 unfolding tells_regular set_length
 regular-long r w t = go (eqb (kind_field r) 1) refl t
   where
     go : (b : Bool) → eqb (kind_field r) 1 ≡ b → (b || eqb (kind_field r) 9) ≡ true → 18 ≤ length r
-    go true e h = let k : 18 ≡ length r = sym (ap set_length (eqb-true (kind_field r) 1 e)) ∙ w.known in omega arith
-    go false e h = let k : 22 ≡ length r = sym (ap set_length (eqb-true (kind_field r) 9 h)) ∙ w.known in omega arith
+    go true e h = let k : 18 ≡ length r = sym (ap set_length (eqb-true (kind_field r) 1 e)) ∙ w in omega arith
+    go false e h = let k : 22 ≡ length r = sym (ap set_length (eqb-true (kind_field r) 9 h)) ∙ w in omega arith
 
-pub complex-long : (r : List ℕ) → Well r → tells_complex r ≡ true → 21 ≤ length r
+pub complex-long : (r : List ℕ) → set_length (kind_field r) ≡ length r → tells_complex r ≡ true → 21 ≤ length r
 unfolding tells_complex set_length
 complex-long r w t = go (eqb (kind_field r) 2) refl t
   where
     go : (b : Bool) → eqb (kind_field r) 2 ≡ b → (b || eqb (kind_field r) 10) ≡ true → 21 ≤ length r
-    go true e h = let k : 21 ≡ length r = sym (ap set_length (eqb-true (kind_field r) 2 e)) ∙ w.known in omega arith
-    go false e h = let k : 23 ≡ length r = sym (ap set_length (eqb-true (kind_field r) 10 h)) ∙ w.known in omega arith
+    go true e h = let k : 21 ≡ length r = sym (ap set_length (eqb-true (kind_field r) 2 e)) ∙ w in omega arith
+    go false e h = let k : 23 ≡ length r = sym (ap set_length (eqb-true (kind_field r) 10 h)) ∙ w in omega arith

@@ -1,5 +1,5 @@
 -- Document 02 (h): a set's records in one pass, each beside what the ones before it leave: its order, its counts and its fields' places.
-use Rattle.std.specs.Prelude.{Bool, true, false, not, ◌&&◌, ◌||◌, List, [], ◌∷◌, ℕ, ◌+◌, ◌-◌, ◌/◌, ◌%◌, leb, ltb, eqb, length, if◌then◌else◌}
+use Rattle.std.specs.Prelude.{Result, Ok, Err, Bool, true, false, not, ◌&&◌, ◌||◌, List, [], ◌∷◌, ℕ, ◌+◌, ◌-◌, ◌/◌, ◌%◌, leb, ltb, eqb, if◌then◌else◌}
 use Rattle.rules.specs.Base.{all}
 use Rattle.rules.specs.Bytes.{u8_at, length_field, kind_field}
 use Rattle.rules.specs.Refusals.{torn}
@@ -7,6 +7,8 @@ use Rattle.sets.specs.Set.{Held, broken, row, set_length, part, sort_key, genera
 use Rattle.set_check.specs.declared.Front.{Front}
 use Rattle.set_check.specs.declared.Front.TheVariants.{End, Broken, Record}
 use Rattle.set_check.specs.declared.SetProgress.{SetProgress}
+use Rattle.set_check.specs.declared.SetError.{SetError}
+use Rattle.set_check.specs.declared.SetError.TheVariants.{NoSet, NoPlace}
 
 -- Frames --------------------------------------------------------------------------------------
 
@@ -106,3 +108,13 @@ goes_on st (r ∷ rs) = is_next st r && few (onward st r) && goes_on (onward st 
 unfoldable pub looked_at : SetProgress → Held → ℕ
 looked_at st broken = 16
 looked_at st (row rs) = if goes_on st rs then (if st.placed && all has_place rs then 0 else 9) else 16
+
+-- the number of an error: "16 where it holds none, 9 what no venue has a place for"
+abbrev pub error_number : SetError → ℕ
+error_number NoSet = 16
+error_number NoPlace = 9
+
+-- the number that a look answers; 0 where a set is taken
+abbrev pub number_of : Result (Unit {0}) SetError → ℕ
+number_of (Ok x) = 0
+number_of (Err e) = error_number e

@@ -7,7 +7,7 @@ ghost use Rattle.rules.specs.Words.{place_of, is_series, is_side, one_to_one};
 ghost use Rattle.rules.specs.Bytes.{u8_at, u32_at, kind_field};
 ghost use Rattle.sets.specs.Set.{set_length, part, sort_key, generation_told, tells_edition, tells_regular, tells_complex, tells_legging, tells_generation, of_whole, of_short, has_place, complex_told};
 ghost use Rattle.sets.specs.Set.{row, held_in};
-ghost use Rattle.set_check.specs.Order.{front_of, none_read, opens, of_this, same_series, may_stand, is_next, one_if, opened_after, is_whole, run_with, onward, few, looked_at};
+ghost use Rattle.set_check.specs.Order.{error_number, number_of, front_of, none_read, opens, of_this, same_series, may_stand, is_next, one_if, opened_after, is_whole, run_with, onward, few, looked_at};
 
 // Records -------------------------------------------------------------------------------------
 
@@ -168,19 +168,12 @@ fn part_of(r: &[u8]) -> u8
     0
 }
 
-// A byte as a number of 32 bits.
-fn wide(x: u8) -> u32
-    ensures { (result ≡ x) × (result < 256) }
-{
-    x as u32
-}
-
 // The place of a legging order.
 pub fn place_of(r: &[u8]) -> u32
     ensures { result ≡ place_of (u8_at r.now 8) (u8_at r.now 9) }
 {
-    let series = wide(wire::u8_at(r, 8));
-    let side = wide(wire::u8_at(r, 9));
+    let series = u32::from(wire::u8_at(r, 8));
+    let side = u32::from(wire::u8_at(r, 9));
     2 * series + side
 }
 
@@ -203,7 +196,7 @@ fn sort_key(r: &[u8]) -> u32
         return place_of(r);
     }
     if part == 4 {
-        return wide(wire::u8_at(r, 4));
+        return u32::from(wire::u8_at(r, 4));
     }
     0
 }
@@ -521,22 +514,41 @@ fn are_few(st: SetProgress) -> bool
     st.run <= 20
 }
 
-// The answer where the set ends.
-fn ended(st: SetProgress) -> u8
-    ensures { result ≡ looked_at st (row []) }
-{
-    if st.opened < 17 {
-        return 16;
-    }
-    if !st.placed {
-        return 9;
-    }
-    0
+// Why a set is refused: what a memory holds is no set, or it tells what no venue has a place for.
+#[derive(Clone, Copy, PartialEq, Eq, Debug)]
+pub enum SetError {
+    NoSet,
+    NoPlace,
 }
 
-// 16 where what a memory holds is no set, 9 where it tells what no venue has a place for, and 0.
-pub fn look(memory: &[u8]) -> u8
-    ensures { result ≡ looked_at none_read (held_in memory.now) }
+impl SetError {
+    // The number of an error.
+    pub fn number(self) -> u8
+        ensures { result ≡ error_number self }
+    {
+        match self {
+            SetError::NoSet => 16,
+            SetError::NoPlace => 9,
+        }
+    }
+}
+
+// The answer where the set ends.
+fn ended(st: SetProgress) -> Result<(), SetError>
+    ensures { number_of result ≡ looked_at st (row []) }
+{
+    if st.opened < 17 {
+        return Err(SetError::NoSet);
+    }
+    if !st.placed {
+        return Err(SetError::NoPlace);
+    }
+    Ok(())
+}
+
+// Whether a memory holds a set, and one that a venue has a place for.
+pub fn look(memory: &[u8]) -> Result<(), SetError>
+    ensures { number_of result ≡ looked_at none_read (held_in memory.now) }
 {
     let mut st = none_read();
     let mut at: usize = 0;
@@ -544,15 +556,15 @@ pub fn look(memory: &[u8]) -> u8
         let front = front_at(memory, at);
         match front {
             Front::End => return ended(st),
-            Front::Broken => return 16,
+            Front::Broken => return Err(SetError::NoSet),
             Front::Record(size) => {
                 let next = at + size as usize;
                 if !is_next(st, &memory[at..next]) {
-                    return 16;
+                    return Err(SetError::NoSet);
                 }
                 st = passed(st, &memory[at..next]);
                 if !are_few(st) {
-                    return 16;
+                    return Err(SetError::NoSet);
                 }
                 at = next;
             }

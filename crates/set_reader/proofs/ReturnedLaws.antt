@@ -1,15 +1,14 @@
 -- The answer of a reading call.
 use Rattle.std.specs.Prelude.{if◌then◌else◌}
 use mathlib.Core.Path.{◌≡◌, refl, sym, ap, ap₂, ◌∙◌}
-use mathlib.Core.Bool.{Bool, true, false, not, ◌&&◌, true≢false}
-use mathlib.Core.List.{List, []}
+use mathlib.Core.Bool.{Bool, true, false}
+use mathlib.Core.List.{List}
 use Prim.Native.Nat.{ℕ}
 use native.Mathlib.Omega.{arith}
-use lib.ListN.{get_or}
 use Rattle.rules.specs.declared.Venue.{Venue}
 use Rattle.rules.specs.Base.{all}
 use Rattle.sets.specs.Set.{Held, broken, row, held_in, is_set, has_place, carries, number_told, venue_told, ReadSet, not_read, read_row, read_set}
-use Rattle.set_check.specs.Order.{none_read, goes_on, looked_at}
+use Rattle.set_check.specs.Order.{none_read, looked_at}
 use Rattle.set_tables.specs.Told.{row_in, ReadableSet}
 use Rattle.set_tables.proofs.Ordered.{set-goes}
 use Rattle.set_tables.proofs.TableFilled.{row-in}

@@ -42,9 +42,8 @@ fn is_carried(venue: Venue, number: u32) -> bool
 pub fn read_set(memory: &[u8]) -> Resumed
     ensures { set_read result ≡ read_set memory.now }
 {
-    let number = set_check::look(memory);
-    if number != 0 {
-        return refused(number);
+    if let Err(e) = set_check::look(memory) {
+        return refused(e.number());
     }
     let venue = set_tables::venue_told(memory);
     let message = set_tables::first_told(memory, 4);

@@ -8,15 +8,15 @@ use Prim.Native.Nat.{ℕ, zero, suc, ◌≤◌, ◌<◌, ◌+◌, ◌*◌, ◌-�
 use native.Mathlib.Omega.{arith}
 use lib.Dec.{eqb, leb, ltb}
 use lib.ListN.{length}
-use borrow.Author.Tests.{eqb-true, eqb-false, eq-eqb, ne_eqb, lt-ltb, le-ltb, ltb-true, le-leb, leb-true, not-true, not-false}
+use borrow.Author.Tests.{eqb-true, eqb-false, eq-eqb, ne_eqb, lt-ltb, le-ltb, ltb-true, le-leb, leb-true, not-true}
 use Rattle.rules.specs.Base.{all, keep}
 use Rattle.rules.specs.Bytes.{u8_at, kind_field}
-use Rattle.rules.proofs.Tests.{and_in, and_l, and_r, and-false, or-false-l, or-false-r}
+use Rattle.rules.proofs.Tests.{and_in, and_l, and_r, or-false-l, or-false-r}
 use Rattle.sets.specs.Set.{part, sort_key, generation_told, may_follow, in_order, count_of, of_series, few_enough, of_whole, of_short, series_then, is_set}
 use Rattle.sets.specs.Set.{tells_edition, tells_regular, tells_complex, tells_legging, tells_generation}
 use Rattle.sets.proofs.Parts.{sort, sort-of, whether}
 use Rattle.set_check.specs.declared.SetProgress.{SetProgress}
-use Rattle.set_check.specs.Order.{opening, none_read, opens, of_this, same_series, may_stand, is_next, one_if, opened_after, is_whole, run_with, onward, few, goes_on}
+use Rattle.set_check.specs.Order.{none_read, opens, of_this, same_series, may_stand, is_next, one_if, opened_after, is_whole, run_with, onward, few, goes_on}
 use Rattle.set_check.proofs.OrderLaws.{Few, few-in, few-out}
 
 -- two tests that follow from each other are equal

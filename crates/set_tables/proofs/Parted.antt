@@ -6,19 +6,19 @@ use mathlib.Core.List.{List, [], ◌∷◌, ◌++◌}
 use mathlib.Core.Logic.{◌⊎◌, inl, inr, ⊎_elim}
 use Prim.Native.Nat.{ℕ, zero, suc, ◌≤◌, ◌<◌, ◌+◌, ◌-◌, ◌/◌, ◌%◌}
 use native.Mathlib.Omega.{arith}
-use lib.Dec.{eqb, leb, ltb}
+use lib.Dec.{eqb, ltb}
 use lib.ListN.{length}
-use borrow.Author.Tests.{eqb-true, eqb-false, eq-eqb, ne_eqb, lt-ltb, le-ltb, ltb-true, ltb-false, not-true, not-false}
-use Rattle.rules.specs.Base.{all, keep}
+use borrow.Author.Tests.{eqb-true, eq-eqb, ne_eqb, lt-ltb, le-ltb, ltb-true, ltb-false}
+use Rattle.rules.specs.Base.{keep}
 use Rattle.rules.specs.Bytes.{u8_at, kind_field}
-use Rattle.rules.proofs.Tests.{and_in, and_l, and_r, or_r}
-use Rattle.sets.specs.Set.{part, sort_key, in_order, count_of, of_series, is_set, tells_edition, tells_regular, tells_complex, tells_legging, tells_generation, generation_told}
+use Rattle.rules.proofs.Tests.{and_l, and_r}
+use Rattle.sets.specs.Set.{part, sort_key, count_of, of_series, is_set, tells_edition, tells_regular, tells_complex, tells_legging}
 use Rattle.sets.proofs.Parts.{sort, sort-of}
 use Rattle.sets.proofs.Lists.{Each, keep_append, keep-none, each_more}
 use Rattle.set_check.specs.declared.SetProgress.{SetProgress}
-use Rattle.set_check.specs.Order.{none_read, opens, is_next, may_stand, same_series, one_if, onward, few, goes_on}
+use Rattle.set_check.specs.Order.{none_read, opens, is_next, may_stand, same_series, onward, few, goes_on}
 use Rattle.set_check.proofs.OrderLaws.{Few, few-out}
-use Rattle.set_tables.proofs.Ordered.{count-more, InOrder, order-on, stand-out, Fine, Blank, blank-few, blank-carried, blank-on, opened-more, goes-fine, none-blank, no_part, set-goes}
+use Rattle.set_tables.proofs.Ordered.{count-more, InOrder, order-on, stand-out, Fine, Blank, blank-few, blank-on, opened-more, goes-fine, none-blank, no_part, set-goes}
 
 -- one step of a set
 module _ (st : SetProgress) (r : List ℕ) (rs : List (List ℕ)) (h : goes_on st (r ∷ rs) ≡ true) where
@@ -99,28 +99,6 @@ pub set-tail : (rs : List (List ℕ)) → is_set rs ≡ true → Tail rs
 set-tail rs h = tail_of rs none_read none-blank (unfold none_read in (omega arith)) (none-goes rs h)
 
 -- Counts ----------------------------------------------------------------------------------------
-
--- a set has its 17 first records
-long : (rs : List (List ℕ)) (st : SetProgress) → Blank st → st.opened ≤ 17 → goes_on st rs ≡ true → 17 ≤ st.opened + length rs
-long [] st b s h = go (ltb st.opened 17) refl (unfold goes_on in h)
-  where
-    go : (t : Bool) → ltb st.opened 17 ≡ t → not t ≡ true → 17 ≤ st.opened + 0
-    go true e k = absurd (true≢false (sym k))
-    go false e k = let l = ltb-false st.opened 17 e in omega arith
-long (r ∷ rs) st b s h = go (ltb st.opened 17) refl (λ b' s' h'. long rs (onward st r) b' s' h')
-  where
-    go : (t : Bool) → ltb st.opened 17 ≡ t →
-        (Blank (onward st r) → (onward st r).opened ≤ 17 → goes_on (onward st r) rs ≡ true → 17 ≤ (onward st r).opened + length rs) → 17 ≤ st.opened +
-        suc (length rs)
-    go false e ih = let l = ltb-false st.opened 17 e in omega arith
-    go true e ih =
-        let early = ltb-true st.opened 17 e in
-        let k = opened-more st b r early in
-        let i = ih (blank-on st b r (step_part st r rs h early)) (omega arith) (step-goes st r rs h) in
-        omega arith
-
-pub set_long : (rs : List (List ℕ)) → is_set rs ≡ true → 17 ≤ length rs
-set_long rs h = let z : none_read.opened ≡ 0 = unfold none_read in refl in omega (arith, long rs none_read none-blank (omega arith) (none-goes rs h))
 
 -- how many records of each part
 pub record Counts (st : SetProgress) (rs : List (List ℕ)) : Type 0 where

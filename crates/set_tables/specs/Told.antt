@@ -1,8 +1,8 @@
 -- What a memory that holds a set tells: its records, and the venue of them.
-use Rattle.std.specs.Prelude.{◌≡◌, true, List, [], ℕ}
+use Rattle.std.specs.Prelude.{◌≡◌, Bool, true, List, [], ◌++◌, ℕ, length, drop, map}
 use Rattle.rules.specs.declared.Legging.{Legging}
 use Rattle.rules.specs.declared.Listed.{Listed}
-use Rattle.rules.specs.Base.{all}
+use Rattle.rules.specs.Base.{all, keep}
 use Rattle.rules.specs.Bytes.{u8_at, u32_at}
 use Rattle.sets.specs.Set.{broken, row, held_in, is_set, has_place}
 
@@ -17,6 +17,14 @@ legging_of r = record { parent = u32_at r 4; price = u32_at r 10; quantity = u32
 -- what the two records of a series tell
 unfoldable pub listed_of : (status away : List ℕ) → Listed
 listed_of status away = record { status = u8_at status 5; bid = u32_at away 5; offer = u32_at away 9 }
+
+-- what each row of one kind tells
+abbrev pub told_by : {A : Type 0} → (List ℕ → Bool) → (List ℕ → A) → List (List ℕ) → List A
+told_by tells told rs = map told (keep tells rs)
+
+-- a table whose first places were taken
+abbrev pub begun : {A : Type 0} → (first table : List A) → List A
+begun xs l = xs ++ drop (length xs) l
 
 -- a memory that neither 16 nor a record without a place refuses
 pub record ReadableSet (memory : List ℕ) : Type 0 where

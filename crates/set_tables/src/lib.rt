@@ -1,14 +1,17 @@
 // Each table of a venue, filled from the records of a set that was looked at.
 #![tactic(auto)]
 
-ghost use Rattle.std.specs.Prelude.{◌≡◌, [], ◌≤◌, length, get_or, drop};
-ghost use Rattle.rules.specs.Bytes.{u32_at, length_field};
-ghost use Rattle.sets.specs.Set.{complex_told};
+ghost use Rattle.std.specs.Prelude.{◌≡◌, true, Bool, List, ℕ, [], ◌≤◌, length, get_or};
+ghost use Rattle.rules.specs.Bytes.{u32_at, kind_field};
+ghost use Rattle.sets.specs.Set.{tells_regular, tells_complex, tells_edition, count_of, set_length, complex_told};
 ghost use Rattle.sets.specs.Set.{regular_told, edition_told, venue_told};
 ghost use Rattle.rules.specs.Generation.{one_more};
-ghost use Rattle.set_tables.specs.Told.{row_in, ReadableSet, legging_of, listed_of};
+ghost use Rattle.set_tables.specs.Told.{row_in, told_by, begun, ReadableSet, legging_of, listed_of};
+
+mod walk;
 
 use rules::{Complex, Edition, Generations, Legging, Listed, Regular, Venue};
+use walk::Records;
 
 // What a record tells -------------------------------------------------------------------------
 
@@ -22,42 +25,80 @@ fn display_told(r: &[u8]) -> u32
     wire::u32_at(r, 14)
 }
 
-// The regular order that a record tells.
-fn regular_told(r: &[u8]) -> Regular
-    requires { 18 ≤ length r.now }
-    ensures { result ≡ regular_told r.now }
-{
-    wire::order_at(r, display_told(r))
+// What a set tells one after another, each by a record of its own.
+trait Told: Copy {
+    // A record tells one.
+    ghost tells: { List ℕ → Bool };
+
+    // What it tells.
+    ghost told: { List ℕ → Self };
+
+    // A record tells one.
+    fn tells(r: &[u8]) -> bool
+        ensures { result ≡ tells r.now };
+
+    // What a record tells.
+    fn told(r: &[u8]) -> Self
+        requires tells { tells r.now ≡ true }
+        requires whole { set_length (kind_field r.now) ≡ length r.now }
+        ensures { result ≡ told r.now };
 }
 
-// The complex order that a record tells.
-fn complex_told(r: &[u8]) -> Complex
-    requires { 21 ≤ length r.now }
-    ensures { result ≡ complex_told r.now }
-{
-    if set_check::kind_of(r) == 10 {
-        return wire::two_leg_at(r, wire::u8_at(r, 21), wire::u8_at(r, 22));
+impl Told for Regular {
+    ghost tells = { tells_regular };
+
+    ghost told = { regular_told };
+
+    fn tells(r: &[u8]) -> bool {
+        set_check::tells_regular(r)
     }
-    wire::two_leg_at(r, 1, 1)
+
+    fn told(r: &[u8]) -> Regular {
+        wire::order_at(r, display_told(r))
+    }
 }
 
-// The edition that a record tells.
-fn edition_told(r: &[u8]) -> Edition
-    ensures { result ≡ edition_told r.now }
-{
-    if set_check::kind_of(r) == 8 {
-        return Edition {
-            edition: wire::u32_at(r, 5),
-            message: wire::u32_at(r, 9),
-            figure: 8,
-            value: wire::u8_at(r, 4),
-        };
+impl Told for Complex {
+    ghost tells = { tells_complex };
+
+    ghost told = { complex_told };
+
+    fn tells(r: &[u8]) -> bool {
+        set_check::tells_complex(r)
     }
-    Edition {
-        edition: wire::u32_at(r, 6),
-        message: wire::u32_at(r, 10),
-        figure: wire::u8_at(r, 4),
-        value: wire::u8_at(r, 5),
+
+    fn told(r: &[u8]) -> Complex {
+        if set_check::kind_of(r) == 10 {
+            return wire::two_leg_at(r, wire::u8_at(r, 21), wire::u8_at(r, 22));
+        }
+        wire::two_leg_at(r, 1, 1)
+    }
+}
+
+impl Told for Edition {
+    ghost tells = { tells_edition };
+
+    ghost told = { edition_told };
+
+    fn tells(r: &[u8]) -> bool {
+        set_check::tells_edition(r)
+    }
+
+    fn told(r: &[u8]) -> Edition {
+        if set_check::kind_of(r) == 8 {
+            return Edition {
+                edition: wire::u32_at(r, 5),
+                message: wire::u32_at(r, 9),
+                figure: 8,
+                value: wire::u8_at(r, 4),
+            };
+        }
+        Edition {
+            edition: wire::u32_at(r, 6),
+            message: wire::u32_at(r, 10),
+            figure: wire::u8_at(r, 4),
+            value: wire::u8_at(r, 5),
+        }
     }
 }
 
@@ -85,11 +126,19 @@ fn listed_told(status: &[u8], away: &[u8]) -> Listed
 
 // The venue of a set, table by table ----------------------------------------------------------
 
-// The length of the record at a position; 0 at the end of the set.
-fn size_at(memory: &[u8], at: usize) -> usize
-    ensures { result ≡ length_field (drop at memory.now) }
+// Each record that tells a `T`, put into a table: the first at its first place, and each other at the next.
+fn fill<T: Told>(memory: &[u8], table: &mut [T])
+    requires set { ReadableSet memory.now }
+    requires room { count_of T.tells (row_in memory.now) ≤ length table.old }
+    ensures { table.new ≡ begun (told_by T.tells T.told (row_in memory.now)) table.old }
 {
-    wire::u16_at(memory, at) as usize
+    let mut n = 0;
+    for r in Records::of(memory) {
+        if T::tells(r) {
+            table[n] = T::told(r);
+            n += 1;
+        }
+    }
 }
 
 // The regular orders that a set tells, place by place.
@@ -97,22 +146,8 @@ fn regulars_told(memory: &[u8]) -> [Regular; 128]
     requires { ReadableSet memory.now }
     ensures { result ≡ (venue_told (row_in memory.now)).regular }
 {
-    let free = rules::NO_REGULAR;
-    let mut l = [free; 128];
-    let mut n: usize = 0;
-    let mut at: usize = 0;
-    let mut size = size_at(memory, 0);
-    while 0 < size {
-        let from = at;
-        at = from + size;
-        size = size_at(memory, at);
-        if !set_check::tells_regular(&memory[from..at]) {
-            continue;
-        }
-        let o = regular_told(&memory[from..at]);
-        l[n] = o;
-        n += 1;
-    }
+    let mut l = [rules::NO_REGULAR; 128];
+    fill(memory, &mut l);
     l
 }
 
@@ -121,22 +156,8 @@ fn complexes_told(memory: &[u8]) -> [Complex; 32]
     requires { ReadableSet memory.now }
     ensures { result ≡ (venue_told (row_in memory.now)).complex }
 {
-    let free = rules::NO_COMPLEX;
-    let mut l = [free; 32];
-    let mut n: usize = 0;
-    let mut at: usize = 0;
-    let mut size = size_at(memory, 0);
-    while 0 < size {
-        let from = at;
-        at = from + size;
-        size = size_at(memory, at);
-        if !set_check::tells_complex(&memory[from..at]) {
-            continue;
-        }
-        let c = complex_told(&memory[from..at]);
-        l[n] = c;
-        n += 1;
-    }
+    let mut l = [rules::NO_COMPLEX; 32];
+    fill(memory, &mut l);
     l
 }
 
@@ -145,22 +166,8 @@ fn editions_told(memory: &[u8]) -> [Edition; 32]
     requires { ReadableSet memory.now }
     ensures { result ≡ (venue_told (row_in memory.now)).editions }
 {
-    let free = rules::NO_EDITION;
-    let mut l = [free; 32];
-    let mut n: usize = 0;
-    let mut at: usize = 0;
-    let mut size = size_at(memory, 0);
-    while 0 < size {
-        let from = at;
-        at = from + size;
-        size = size_at(memory, at);
-        if !set_check::tells_edition(&memory[from..at]) {
-            continue;
-        }
-        let e = edition_told(&memory[from..at]);
-        l[n] = e;
-        n += 1;
-    }
+    let mut l = [rules::NO_EDITION; 32];
+    fill(memory, &mut l);
     l
 }
 
@@ -169,20 +176,12 @@ fn leggings_told(memory: &[u8]) -> [Legging; 16]
     requires { ReadableSet memory.now }
     ensures { result ≡ (venue_told (row_in memory.now)).legging }
 {
-    let free = rules::NO_LEGGING;
-    let mut l = [free; 16];
-    let mut at: usize = 0;
-    let mut size = size_at(memory, 0);
-    while 0 < size {
-        let from = at;
-        at = from + size;
-        size = size_at(memory, at);
-        if !set_check::tells_legging(&memory[from..at]) {
-            continue;
+    let mut l = [rules::NO_LEGGING; 16];
+    for r in Records::of(memory) {
+        if set_check::tells_legging(r) {
+            let n = set_check::place_of(r) as usize;
+            l[n] = legging_told(r);
         }
-        let n = set_check::place_of(&memory[from..at]) as usize;
-        let x = legging_told(&memory[from..at]);
-        l[n] = x;
     }
     l
 }
@@ -192,34 +191,24 @@ fn series_told(memory: &[u8]) -> [Listed; 8]
     requires { ReadableSet memory.now }
     ensures { result ≡ (venue_told (row_in memory.now)).series }
 {
-    let none = rules::NOT_LISTED;
-    let mut l = [none; 8];
-    let mut at = size_at(memory, 0);
-    let mut s: usize = 0;
-    while s < 8 {
-        let away = at + size_at(memory, at);
-        let next = away + size_at(memory, away);
-        let x = listed_told(&memory[at..away], &memory[away..next]);
-        l[s] = x;
-        at = next;
-        s += 1;
+    let mut records = Records::of(memory);
+    let _first = records.front();
+    let mut l = [rules::NOT_LISTED; 8];
+    for s in 0..8 {
+        let status = records.front();
+        let away = records.front();
+        l[s] = listed_told(status, away);
     }
     l
 }
 
 // One generation more of a series; the oldest number goes.
-fn one_more(g: Generations, number: u32) -> Generations
+fn one_more(mut g: Generations, number: u32) -> Generations
     ensures { result.messages ≡ one_more number g.messages }
 {
-    let old = g.messages;
-    let mut messages = [0u32; 20];
-    let mut k: usize = 0;
-    while k < 19 {
-        messages[k] = old[k + 1];
-        k += 1;
-    }
-    messages[19] = number;
-    Generations { messages }
+    g.messages.rotate_left(1);
+    g.messages[19] = number;
+    g
 }
 
 // The generations of every series that a set tells.
@@ -227,21 +216,12 @@ fn generations_told(memory: &[u8]) -> [Generations; 8]
     requires { ReadableSet memory.now }
     ensures { result ≡ (venue_told (row_in memory.now)).generations }
 {
-    let none = rules::NO_GENERATIONS;
-    let mut l = [none; 8];
-    let mut at: usize = 0;
-    let mut size = size_at(memory, 0);
-    while 0 < size {
-        let from = at;
-        at = from + size;
-        size = size_at(memory, at);
-        if !set_check::tells_generation(&memory[from..at]) {
-            continue;
+    let mut l = [rules::NO_GENERATIONS; 8];
+    for r in Records::of(memory) {
+        if set_check::tells_generation(r) {
+            let s = wire::u8_at(r, 4) as usize;
+            l[s] = one_more(l[s], set_check::told_of(r));
         }
-        let s = wire::u8_at(&memory[from..at], 4) as usize;
-        let g = l[s];
-        let h = one_more(g, set_check::told_of(&memory[from..at]));
-        l[s] = h;
     }
     l
 }
@@ -251,14 +231,9 @@ fn reached_told(memory: &[u8]) -> u32
     requires { ReadableSet memory.now }
     ensures { result ≡ (venue_told (row_in memory.now)).reached }
 {
-    let mut at: usize = 0;
-    let mut size = size_at(memory, 0);
-    while 0 < size {
-        let from = at;
-        at = from + size;
-        size = size_at(memory, at);
-        if set_check::kind_of(&memory[from..at]) == 84 {
-            return wire::u32_at(&memory[from..at], 4);
+    for r in Records::of(memory) {
+        if set_check::kind_of(r) == 84 {
+            return wire::u32_at(r, 4);
         }
     }
     0
@@ -269,8 +244,7 @@ pub fn first_told(memory: &[u8], at: usize) -> u32
     requires { ReadableSet memory.now }
     ensures { result ≡ u32_at (get_or (row_in memory.now) 0 []) at }
 {
-    let end = size_at(memory, 0);
-    wire::u32_at(&memory[0..end], at)
+    wire::u32_at(Records::of(memory).front(), at)
 }
 
 // The venue that the records of a set tell. This function is compiled by itself: the stack that it takes is free again when the venue is checked.

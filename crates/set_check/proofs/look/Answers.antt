@@ -7,7 +7,6 @@ use lib.Seq.{drop-drop}
 use Rattle.set_check.proofs.Walks.{held-ended, held-broken, in-front, step-not, step-many, step-on}
 use native.Mathlib.Omega.{arith}
 use mathlib.Core.Path.{refl, sym, ap, ◌∙◌}
-use mathlib.Core.Bool.{true}
 use Prim.Native.Nat.{◌-◌}
 use Rattle.sets.specs.Set.{held_in}
 use Rattle.set_check.specs.Order.{none_read, few, looked_at}

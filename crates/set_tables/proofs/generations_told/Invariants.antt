@@ -1,10 +1,7 @@
-use Prim.Native.Nat.{◌-◌}
-use lib.ListN.{length}
 use Rattle.set_tables.proofs.ToldLaws.{Numbered}
+use Rattle.set_tables.specs.Told.{row_in}
+use Rattle.set_tables.specs.Records.{rows_left}
 use Rattle.set_tables.proofs.generations_told.Given as goal
 
-abbrev pub invariant-loop-size : goal.invariant-loop-size
-invariant-loop-size l = Numbered l.memory l.l l.at l.size
-
-abbrev pub decreases-loop-size : goal.decreases-loop-size
-decreases-loop-size l = length l.memory - l.at
+abbrev pub invariant-loop-r : goal.invariant-loop-r
+invariant-loop-r l = Numbered (row_in l.memory) l.l (rows_left l.r-iterator)

@@ -1,9 +1,9 @@
--- `set_tables::edition_told` meets its contract.
+-- `told` of an edition meets its contract.
 use native.Mathlib.Omega.{arith}
 use borrow.Author.Tests.{eq-eqb, ne_eqb}
 use Rattle.rules.specs.Bytes.{kind_field}
 use Rattle.sets.specs.Set.{edition_told}
-use Rattle.set_tables.proofs.edition_told.Goals as goal
+use Rattle.set_tables.proofs.EditionTold.told.Goals as goal
 
 pub returns-then-kind_of-eq8 : goal.returns-then-kind_of-eq8
 unfolding edition_told
