@@ -26,6 +26,7 @@ pub fn empty() -> Session
 }
 
 // After one message, of a list whose last place is `last`.
+// Each length has a function: one over arrays would take each session apart and put it together again in an arm for each length.
 fn after_one(last: u8, a: u8) -> Session
     ensures { some (places_of result) ≡ following (suc last) (a ∷ []) }
 {

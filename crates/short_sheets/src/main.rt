@@ -74,18 +74,9 @@ fn put_places(out: &mut [u8], s: Session) -> usize
 {
     match s {
         Session::Empty => records::put(out, 0, b"\n"),
-        Session::One(a) => {
-            let none = [0u32; 0];
-            text::put_fields(out, 0, printed(a), &none)
-        }
-        Session::Two(a, b) => {
-            let other = [printed(b)];
-            text::put_fields(out, 0, printed(a), &other)
-        }
-        Session::Three(a, b, c) => {
-            let others = [printed(b), printed(c)];
-            text::put_fields(out, 0, printed(a), &others)
-        }
+        Session::One(a) => text::put_fields(out, 0, printed(a), &[]),
+        Session::Two(a, b) => text::put_fields(out, 0, printed(a), &[printed(b)]),
+        Session::Three(a, b, c) => text::put_fields(out, 0, printed(a), &[printed(b), printed(c)]),
     }
 }
 
