@@ -39,6 +39,7 @@ fn start() -> Progress
 }
 
 // How many bytes the message at the front of `rest` takes, whose call answered `number`: a torn message ends the list.
+#[tactic(auto, unfolding(crate::specs::Sheet::message_end, rules::specs::Bytes::length_field))]
 fn message_end(rest: &[u8], number: u8) -> usize
     ensures { result ≡ message_end number rest.now }
 {
