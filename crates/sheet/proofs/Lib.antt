@@ -1,2 +1,3 @@
 pub mod Texts
 pub mod SheetLaws
+pub mod Errors

@@ -1,5 +1,4 @@
 -- What is printed, and where the printing stands between two messages.
 pub mod Sheet
-pub mod Inputs
 pub mod Streams
 pub mod Requirements

@@ -3,13 +3,10 @@ use Rattle.std.specs.Prelude.{ℕ, ◌<◌, List, ◌++◌, codes, length, take,
 use Rattle.std.specs.declared.option.Option.{Option}
 use Rattle.std.specs.Io.KnownBytes.{Appends, Consumes, IsAtEnd}
 use Rattle.sheet.specs.Sheet.{most_input, sheet_text}
-use Rattle.sheet.specs.declared.Input.{Input}
-use Rattle.sheet.specs.declared.Input.TheVariants.{Bytes, Failed}
 
--- the bytes read were the reader's first ones, and it had no more where the memory was not filled
-abbrev pub ReadFrom : (old new : Option (List ℕ)) (memory : List ℕ) → Input → Type 0
-ReadFrom old new memory (Bytes n) = Consumes old new (take n memory) × (n < length memory → IsAtEnd new)
-ReadFrom old new memory Failed = Unit {0}
+-- the n bytes read were the reader's first ones, and it had no more where the memory was not filled
+abbrev pub ReadFrom : (old new : Option (List ℕ)) (memory : List ℕ) → (n : ℕ) → Type 0
+ReadFrom old new memory n = Consumes old new (take n memory) × (n < length memory → IsAtEnd new)
 
 -- the line that names a file
 abbrev pub name_line : (name : List ℕ) → List ℕ

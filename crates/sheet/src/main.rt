@@ -1,10 +1,9 @@
 // The printing program: reads messages on standard input, its first 65,536 bytes at most, and prints the sheet of a run over them, a line per record.
 #![tactic(auto)]
 
-ghost use Rattle.std.specs.Prelude.{◌≡◌, ◌≤◌, [], length, IsTrue, OnOk};
+ghost use Rattle.std.specs.Prelude.{◌≡◌, ◌≤◌, [], length, IfOk, OnOk};
 ghost use Rattle.std.specs.Io.KnownBytes.{Appends};
 ghost use Rattle.sheet.specs.Sheet.{Prints, message_end, most_input, sheet_text, started};
-ghost use Rattle.sheet.specs.Inputs.{ReadInto};
 ghost use Rattle.sheet.specs.Streams.{PrintsInput, ReadFrom, name_line};
 ghost use Rattle.sheet.specs.Requirements.{LineRoom};
 
@@ -40,13 +39,14 @@ fn start() -> Progress
 }
 
 // How many bytes the message at the front of `rest` takes, whose call answered `number`: a torn message ends the list.
+#[tactic(auto, unfolding(crate::specs::Sheet::message_end, rules::specs::Bytes::length_field))]
 fn message_end(rest: &[u8], number: u8) -> usize
     ensures { result ≡ message_end number rest.now }
 {
     if number == 1 {
         return rest.len();
     }
-    wire::u16_at(rest, 0) as usize
+    usize::from(wire::u16_at(rest, 0))
 }
 
 // One message more: its lines at the start of `text`.
@@ -74,22 +74,29 @@ fn advance(p: Progress, messages: &[u8], report: &mut [u8], text: &mut [u8]) -> 
 
 // A clause names bytes only where a reader or a writer tells them, as one over memory does. Of the system's files and streams nothing is known.
 
-// A line on standard error: the call of the message after `done` others answered `number`, so the sheet ends before it. An error of that stream is let go.
-fn complain(rt: &impl Eprint, done: u32, number: u8) {
-    let _ = eprintln!(rt;
-        "sheet: after message {done} a call answered {number}: the sheet ends there"
-    );
+// Why the printing stopped: the input or standard output failed, or the call of the message after `done` others answered `number`.
+#[derive(Drop)]
+enum Stopped {
+    Input(io::Error),
+    Output(io::Error),
+    Call { done: u32, number: u8 },
 }
 
-// A line on standard error: what failed, and why. An error of that stream is let go.
-fn fail(rt: &impl Eprint, what: &str, error: io::Error) {
-    let _ = eprintln!(rt; "{what}: {error}");
+// A line on standard error: why the printing of an input stopped. An error of that stream is let go.
+fn tell(rt: &impl Eprint, name: &str, stopped: Stopped) {
+    let _ = match stopped {
+        Stopped::Input(error) => eprintln!(rt; "{name}: {error}"),
+        Stopped::Output(error) => eprintln!(rt; "sheet: standard output: {error}"),
+        Stopped::Call { done, number } => eprintln!(rt;
+            "sheet: after message {done} a call answered {number}: the sheet ends there"
+        ),
+    };
 }
 
-// Prints the sheet of a message list, and answers whether all of it was written.
-fn print_list<W: Write>(rt: &impl Eprint, out: &mut W, messages: &[u8]) -> bool
+// Prints the sheet of a message list.
+fn print_list<W: Write>(out: &mut W, messages: &[u8]) -> Result<(), Stopped>
     requires { length messages.now ≤ most_input }
-    ensures { IsTrue result → Appends (W.contents out.old) (W.contents out.new) (sheet_text messages.now) }
+    ensures { OnOk result (Appends (W.contents out.old) (W.contents out.new) (sheet_text messages.now)) }
 {
     let mut report = [0u8; 10433];
     let mut text = [0u8; 26083];
@@ -98,54 +105,38 @@ fn print_list<W: Write>(rt: &impl Eprint, out: &mut W, messages: &[u8]) -> bool
         let done = p.done;
         p = advance(p, messages, &mut report, &mut text);
         if p.done == done {
-            complain(rt, p.done, p.number);
-            return false;
+            let number = p.number;
+            return Err(Stopped::Call { done, number });
         }
         let written = p.written;
-        if let Err(error) = out.write_all(&text[..written]) {
-            fail(rt, "sheet: standard output", error);
-            return false;
-        }
+        out.write_all(&text[..written]).map_err(Stopped::Output)?;
     }
-    true
+    Ok(())
 }
 
-// What came of reading: so many bytes, or an error.
-#[derive(Clone, Copy)]
-enum Input {
-    Bytes(usize),
-    Failed,
-}
-
-// Reads until `buf` is full or the input ends. An error is told, by the input's name.
-fn read_input<R: Read>(rt: &impl Eprint, reader: &mut R, name: &str, buf: &mut [u8]) -> Input
-    ensures within { ReadInto result (length buf.new) }
-    ensures bytes { ReadFrom (R.remaining reader.old) (R.remaining reader.new) buf.new result }
+// Reads until `buf` is full or the input ends, and answers how many bytes that were.
+fn read_input<R: Read>(reader: &mut R, buf: &mut [u8]) -> io::Result<usize>
+    ensures within { IfOk result (λ n. n ≤ length buf.new) }
+    ensures bytes { IfOk result (λ n. ReadFrom (R.remaining reader.old) (R.remaining reader.new) buf.new n) }
 {
     let mut done = 0;
     while done < buf.len() {
-        match reader.read(&mut buf[done..]) {
-            Ok(0) => break,
-            Ok(more) => done += more,
-            Err(error) => {
-                fail(rt, name, error);
-                return Input::Failed;
-            }
+        let more = reader.read(&mut buf[done..])?;
+        if more == 0 {
+            break;
         }
+        done += more;
     }
-    Input::Bytes(done)
+    Ok(done)
 }
 
-// Prints the sheet of an input, whose name is for the error message.
-fn print_input<R: Read, W: Write>(rt: &impl Eprint, reader: &mut R, out: &mut W, name: &str) -> bool
-    ensures { IsTrue result → PrintsInput [] (R.remaining reader.old) (W.contents out.old) (W.contents out.new) }
+// Prints the sheet of an input.
+fn print_input<R: Read, W: Write>(reader: &mut R, out: &mut W) -> Result<(), Stopped>
+    ensures { OnOk result (PrintsInput [] (R.remaining reader.old) (W.contents out.old) (W.contents out.new)) }
 {
     let mut input = [0u8; 65536];
-    let found = read_input(rt, reader, name, &mut input);
-    let Input::Bytes(n) = found else {
-        return false;
-    };
-    print_list(rt, out, &input[..n])
+    let n = read_input(reader, &mut input).map_err(Stopped::Input)?;
+    print_list(out, &input[..n])
 }
 
 // A line that names a file.
@@ -156,25 +147,17 @@ fn print_name<W: Write>(out: &mut W, name: &str) -> io::Result<()>
 }
 
 // That line, and the file's sheet.
-fn print_named<R: Read, W: Write>(rt: &impl Eprint, reader: &mut R, out: &mut W, name: &str) -> bool
-    ensures { IsTrue result → PrintsInput (name_line name.now) (R.remaining reader.old) (W.contents out.old) (W.contents out.new) }
+fn print_named<R: Read, W: Write>(reader: &mut R, out: &mut W, name: &str) -> Result<(), Stopped>
+    ensures { OnOk result (PrintsInput (name_line name.now) (R.remaining reader.old) (W.contents out.old) (W.contents out.new)) }
 {
-    if let Err(error) = print_name(out, name) {
-        fail(rt, "sheet: standard output", error);
-        return false;
-    }
-    print_input(rt, reader, out, name)
+    print_name(out, name).map_err(Stopped::Output)?;
+    print_input(reader, out)
 }
 
 // The same of the file that a name reaches.
-fn print_path<W: Write>(rt: &(impl Files + Eprint), out: &mut W, name: &str) -> bool {
-    match fs::open(rt, name) {
-        Ok(mut file) => print_named(rt, &mut file, out, name),
-        Err(error) => {
-            fail(rt, name, error);
-            false
-        }
-    }
+fn print_path<W: Write>(rt: &impl Files, out: &mut W, name: &str) -> Result<(), Stopped> {
+    let mut file = fs::open(rt, name).map_err(Stopped::Input)?;
+    print_named(&mut file, out, name)
 }
 
 // A line on standard error: why an argument names no file.
@@ -182,20 +165,22 @@ fn refuse(rt: &impl Eprint, why: &str) {
     let _ = eprintln!(rt; "sheet: argument: {why}");
 }
 
-// The same of the file that an argument names.
+// The same of the file that an argument names, and whether it was printed. A line on standard error tells why it was not.
 fn print_file<W: Write>(rt: &(impl Files + Env + Eprint), out: &mut W, i: usize) -> bool {
     let mut memory = [0u8; 4096];
     let Ok(n) = rt.arg(i, &mut memory) else {
         refuse(rt, "File name too long");
         return false;
     };
-    match str::from_utf8(&memory[..n]) {
-        Ok(name) => print_path(rt, out, name),
-        Err(_) => {
-            refuse(rt, "not UTF-8");
-            false
-        }
+    let Ok(name) = str::from_utf8(&memory[..n]) else {
+        refuse(rt, "not UTF-8");
+        return false;
+    };
+    if let Err(stopped) = print_path(rt, out, name) {
+        tell(rt, name, stopped);
+        return false;
     }
+    true
 }
 
 // Whether the program was started with an argument at a place, its own name being at 0.
@@ -208,7 +193,9 @@ fn main(rt: HostRuntime) {
     let mut out = rt.stdout();
     if !has_argument(&rt, 1) {
         let mut input = rt.stdin();
-        print_input(&rt, &mut input, &mut out, "sheet: standard input");
+        if let Err(stopped) = print_input(&mut input, &mut out) {
+            tell(&rt, "sheet: standard input", stopped);
+        }
         return;
     }
     for i in 1..usize::MAX {

@@ -9,7 +9,7 @@ use native.Mathlib.Omega.{arith}
 use borrow.Author.Tests.{lt-ltb, le-ltb, ltb-true, ltb-false}
 use lib.Dec.{ltb}
 use lib.ListN.{length, length-replicate, replicate}
-use Rattle.short_sessions.specs.Sessions.{Follow, Followed, OneAfterAnother, beginning_at, following, of_length, raised, sessions}
+use Rattle.short_sessions.specs.Sessions.{Follow, OneAfterAnother, beginning_at, following, of_length, raised, sessions}
 
 -- What follows a session ----------------------------------------------------------------------
 
@@ -57,10 +57,13 @@ of_none s = go (ltb (length s) 3) refl
     go true e = rw (raised-none s, e, following)
     go false e = rw (raised-none s, e, following)
 
+pub none_left : (k : ℕ) (s : List ℕ) → (1 ≤ k → ⊥) → none ≡ following k s
+none_left zero s h = sym (of_none s)
+none_left (suc k) s h = absurd (h (omega arith))
+
 -- of a list whose last place is one less than its number of messages
-pub by_last : (k : ℕ) (o : Option (List ℕ)) (s t : List ℕ) → k ≢ 0 → s ≡ t → o ≡ following (suc (k - 1)) t → o ≡ following k s
-by_last zero o s t h e x = absurd (h refl)
-by_last (suc k) o s t h e x = let z : suc (suc k - 1) ≡ suc k = omega arith in cc
+pub by_last : (k last : ℕ) (o : Option (List ℕ)) (s t : List ℕ) → (1 ≤ k) × (last ≡ k - 1) → s ≡ t → o ≡ following (suc last) t → o ≡ following k s
+by_last k last o s t h e x = let z : suc last ≡ k = omega arith in cc
 
 pub first_one : (k : ℕ) (s : List ℕ) → k ≢ 0 → s ≡ [] → some (0 ∷ []) ≡ following k s
 first_one zero s h e = absurd (h refl)

@@ -1,25 +1,18 @@
 -- Sessions in lent memory.
-use mathlib.Core.Path.{◌≡◌, refl, sym, ap, ap₂, ◌∙◌}
+use mathlib.Core.Path.{◌≡◌, refl, sym, ap, ◌∙◌}
 use mathlib.Core.Bool.{Bool, true, false}
 use mathlib.Core.Logic.{◌≢◌}
-use mathlib.Core.List.{List, [], ◌∷◌, ◌++◌}
+use mathlib.Core.List.{List, [], ◌∷◌}
 use mathlib.Core.Option.{Option, none, some}
-use Prim.Native.Nat.{ℕ, zero, suc, ◌≤◌, ◌<◌}
+use Prim.Native.Nat.{ℕ, zero, suc, ◌≤◌, ◌<◌, max}
 use native.Mathlib.Omega.{arith}
-use borrow.Author.Tests.{le-ltb, lt-ltb, ne_eqb}
-use lib.ListN.{get_or, length, set, take}
+use borrow.Author.Tests.{eqb-false, eqb-true, le-ltb, lt-ltb, ltb-false, ltb-true, ne_eqb}
+use lib.Dec.{eqb, ltb}
+use lib.ListN.{get_or, length}
 use Rattle.short_sessions.specs.Sessions.{Within, following}
 use Rattle.short_sessions.specs.Held.{HoldsOwn, Moved, advanced, held, held_in, is_within, moved}
 
 -- Four bytes ----------------------------------------------------------------------------------
-
-pub set-four : (m : List ℕ) (n a b c : ℕ) → length m ≡ 4 → set (set (set (set m 0 n) 1 a) 2 b) 3 c ≡ n ∷ a ∷ b ∷ c ∷ []
-set-four [] n a b c h = absurd (omega arith)
-set-four (w ∷ []) n a b c h = absurd (omega arith)
-set-four (w ∷ x ∷ []) n a b c h = absurd (omega arith)
-set-four (w ∷ x ∷ y ∷ []) n a b c h = absurd (omega arith)
-set-four (w ∷ x ∷ y ∷ z ∷ []) n a b c h = refl
-set-four (w ∷ x ∷ y ∷ z ∷ v ∷ m) n a b c h = absurd (omega arith)
 
 four : (m : List ℕ) → length m ≡ 4 → m ≡ get_or m 0 0 ∷ get_or m 1 0 ∷ get_or m 2 0 ∷ get_or m 3 0 ∷ []
 four [] h = absurd (omega arith)
@@ -102,8 +95,36 @@ module _ (k : ℕ) (m : List ℕ) (len : length m ≡ 4) where
   pub none-third : 2 < get_or m 0 0 → get_or m 1 0 < k → get_or m 2 0 < k → k ≤ get_or m 3 0 → none ≡ held_in k m
   none-third s f g h = by_bytes _ (no_third k _ _ _ _ s f g h)
 
+  -- of two or three places, the highest
+  pub none-of_two : get_or m 0 0 ≡ 2 → k ≤ max (get_or m 1 0) (get_or m 2 0) → none ≡ held_in k m
+  none-of_two e h = go (ltb (get_or m 1 0) k) refl
+    where
+      go : (b : Bool) → ltb (get_or m 1 0) k ≡ b → none ≡ held_in k m
+      go true x = let y = ltb-true (get_or m 1 0) k x in none-second (omega arith) (omega arith) y (omega arith)
+      go false x = none_first (omega arith) (ltb-false (get_or m 1 0) k x)
+
+  pub none-of_three : get_or m 0 0 ≡ 3 → k ≤ max (max (get_or m 1 0) (get_or m 2 0)) (get_or m 3 0) → none ≡ held_in k m
+  none-of_three e h = go (ltb (get_or m 1 0) k) refl (ltb (get_or m 2 0) k) refl
+    where
+      go : (b : Bool) → ltb (get_or m 1 0) k ≡ b → (d : Bool) → ltb (get_or m 2 0) k ≡ d → none ≡ held_in k m
+      go false x d y = none_first (omega arith) (ltb-false (get_or m 1 0) k x)
+      go true x false y = none-second (omega arith) (omega arith) (ltb-true (get_or m 1 0) k x) (ltb-false (get_or m 2 0) k y)
+      go true x true y = let u = ltb-true (get_or m 1 0) k x in let v = ltb-true (get_or m 2 0) k y in none-third (omega arith) u v (omega arith)
+
   pub none_more : 3 < get_or m 0 0 → none ≡ held_in k m
   none_more h = by_bytes _ (too_many k _ _ _ _ h)
+
+pub other_length : (k : ℕ) (m : List ℕ) → length m ≢ 4 → none ≡ held_in k m
+unfolding held_in
+other_length k m h = rw (ne_eqb (length m) 4 h, held_in)
+
+-- memory that holds a session has four bytes
+pub four_bytes : (k : ℕ) (m s : List ℕ) → some s ≡ held_in k m → length m ≡ 4
+four_bytes k m s e = go (eqb (length m) 4) refl
+  where
+    go : (b : Bool) → eqb (length m) 4 ≡ b → length m ≡ 4
+    go true x = eqb-true (length m) 4 x
+    go false x = let z = other_length k m (eqb-false (length m) 4 x) in cc
 
 pub holds-own : HoldsOwn
 unfolding held Within
@@ -118,9 +139,6 @@ holds-own k (a ∷ b ∷ c ∷ d ∷ s) few w = absurd (omega arith)
 pub holds-none : (k : ℕ) (m : List ℕ) → held_in k m ≡ none → moved none m ≡ advanced k m
 unfolding advanced
 holds-none k m e = rw (e, advanced)
-
-pub other_length : (k : ℕ) (m : List ℕ) → length m ≢ 4 → moved none m ≡ advanced k m
-other_length k m h = holds-none k m (unfold held_in in (rw (ne_eqb (length m) 4 h, held_in)))
 
 pub none_after : (k : ℕ) (m s : List ℕ) → held_in k m ≡ some s → following k s ≡ none → moved none m ≡ advanced k m
 unfolding advanced

@@ -1,6 +1,6 @@
 -- Memory that holds a session of a list of two messages, and memory that holds none; by computation.
-use Rattle.std.specs.Prelude.{◌≡◌, refl, List, [], ◌∷◌, map, ℕ}
-use Rattle.std.proofs.Math.Option.{Option, none, some}
+use Rattle.std.specs.Prelude.{◌≡◌, refl, [], ◌∷◌, map}
+use Rattle.std.proofs.Math.Option.{none, some}
 use Rattle.short_sessions.specs.Held.{held_in, is_within}
 
 -- the bytes after the places are any

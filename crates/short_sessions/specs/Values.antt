@@ -1,10 +1,10 @@
 -- The values that the code holds.
-use Rattle.std.specs.Prelude.{List, [], ◌∷◌, ℕ}
-use Rattle.std.proofs.Math.Option.{Option, none, some}
+use Rattle.std.specs.Prelude.{List, [], ◌∷◌, ℕ, None, Some}
+use Rattle.std.specs.declared.option.Option.{Option}
+use Rattle.std.proofs.Math.Option as maybe
+use Rattle.std.proofs.Math.Option.{none, some}
 use Rattle.short_sessions.specs.declared.Session.{Session}
 use Rattle.short_sessions.specs.declared.Session.TheVariants.{Empty, One, Two, Three}
-use Rattle.short_sessions.specs.declared.Found.{Found}
-use Rattle.short_sessions.specs.declared.Found.TheVariants.{Is, Nothing}
 
 -- the places of a session
 abbrev pub places_of : Session → List ℕ
@@ -14,6 +14,6 @@ places_of (Two a b) = a ∷ b ∷ []
 places_of (Three a b c) = a ∷ b ∷ c ∷ []
 
 -- the session that was found
-abbrev pub found : Found → Option (List ℕ)
-found (Is s) = some (places_of s)
-found Nothing = none
+abbrev pub found : Option Session → maybe.Option (List ℕ)
+found (Some s) = some (places_of s)
+found None = none

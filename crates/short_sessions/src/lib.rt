@@ -10,19 +10,12 @@ ghost use Rattle.short_sessions.specs.Values.{found, places_of};
 // By value ------------------------------------------------------------------------------------
 
 // A session: the places of its messages in the list, the first one's being 0.
-#[derive(Clone, Copy)]
+#[derive(Clone, Copy, Debug, PartialEq, Eq)]
 pub enum Session {
     Empty,
     One(u8),
     Two(u8, u8),
     Three(u8, u8, u8),
-}
-
-// A session that was found, or that there is none.
-#[derive(Clone, Copy)]
-pub enum Found {
-    Is(Session),
-    Nothing,
 }
 
 // The first session: no message.
@@ -33,6 +26,7 @@ pub fn empty() -> Session
 }
 
 // After one message, of a list whose last place is `last`.
+// Each length has a function: one over arrays would take each session apart and put it together again in an arm for each length.
 fn after_one(last: u8, a: u8) -> Session
     ensures { some (places_of result) ≡ following (suc last) (a ∷ []) }
 {
@@ -56,33 +50,30 @@ fn after_two(last: u8, a: u8, b: u8) -> Session
 }
 
 // After three.
-fn after_three(last: u8, a: u8, b: u8, c: u8) -> Found
+fn after_three(last: u8, a: u8, b: u8, c: u8) -> Option<Session>
     ensures { found result ≡ following (suc last) (a ∷ b ∷ c ∷ []) }
 {
     if c < last {
-        return Found::Is(Session::Three(a, b, c + 1));
+        return Some(Session::Three(a, b, c + 1));
     }
     if b < last {
-        return Found::Is(Session::Three(a, b + 1, 0));
+        return Some(Session::Three(a, b + 1, 0));
     }
     if a < last {
-        return Found::Is(Session::Three(a + 1, 0, 0));
+        return Some(Session::Three(a + 1, 0, 0));
     }
-    Found::Nothing
+    None
 }
 
 // The session after `s`, of a list of `k` messages.
-pub fn next(k: u8, s: Session) -> Found
+pub fn next(k: u8, s: Session) -> Option<Session>
     ensures { found result ≡ following k (places_of s) }
 {
-    if k == 0 {
-        return Found::Nothing;
-    }
-    let last = k - 1;
+    let last = k.checked_sub(1)?;
     match s {
-        Session::Empty => Found::Is(Session::One(0)),
-        Session::One(a) => Found::Is(after_one(last, a)),
-        Session::Two(a, b) => Found::Is(after_two(last, a, b)),
+        Session::Empty => Some(Session::One(0)),
+        Session::One(a) => Some(after_one(last, a)),
+        Session::Two(a, b) => Some(after_two(last, a, b)),
         Session::Three(a, b, c) => after_three(last, a, b, c),
     }
 }
@@ -90,78 +81,38 @@ pub fn next(k: u8, s: Session) -> Found
 // In lent memory ------------------------------------------------------------------------------
 
 // The session from a list of `k` messages that four bytes hold.
-fn session_in(k: u8, memory: &[u8]) -> Found
-    requires { length memory.now ≡ 4 }
+fn session_in(k: u8, memory: &[u8]) -> Option<Session>
     ensures { found result ≡ held_in k memory.now }
 {
-    let n = memory[0];
-    let a = memory[1];
-    let b = memory[2];
-    let c = memory[3];
-    if n == 0 {
-        return Found::Is(Session::Empty);
+    match *memory {
+        [0, _, _, _] => Some(Session::Empty),
+        [1, a, _, _] if a < k => Some(Session::One(a)),
+        [2, a, b, _] if a.max(b) < k => Some(Session::Two(a, b)),
+        [3, a, b, c] if a.max(b).max(c) < k => Some(Session::Three(a, b, c)),
+        _ => None,
     }
-    if k <= a {
-        return Found::Nothing;
-    }
-    if n == 1 {
-        return Found::Is(Session::One(a));
-    }
-    if k <= b {
-        return Found::Nothing;
-    }
-    if n == 2 {
-        return Found::Is(Session::Two(a, b));
-    }
-    if k <= c {
-        return Found::Nothing;
-    }
-    if n == 3 {
-        return Found::Is(Session::Three(a, b, c));
-    }
-    Found::Nothing
 }
 
-// Four bytes written to a memory of four.
-fn put_bytes(memory: &mut [u8], n: u8, a: u8, b: u8, c: u8)
-    requires { length memory.old ≡ 4 }
-    ensures { memory.new ≡ n ∷ a ∷ b ∷ c ∷ [] }
-{
-    memory[0] = n;
-    memory[1] = a;
-    memory[2] = b;
-    memory[3] = c;
-}
-
-// A session put into four bytes.
-fn put_session(memory: &mut [u8], s: Session)
-    requires { length memory.old ≡ 4 }
-    ensures { memory.new ≡ held (places_of s) }
+// The four bytes that hold a session.
+#[tactic(auto, unfolding(crate::specs::Held::held))]
+fn bytes_of(s: Session) -> [u8; 4]
+    ensures { result ≡ held (places_of s) }
 {
     match s {
-        Session::Empty => put_bytes(memory, 0, 0, 0, 0),
-        Session::One(a) => put_bytes(memory, 1, a, 0, 0),
-        Session::Two(a, b) => put_bytes(memory, 2, a, b, 0),
-        Session::Three(a, b, c) => put_bytes(memory, 3, a, b, c),
+        Session::Empty => [0; 4],
+        Session::One(a) => [1, a, 0, 0],
+        Session::Two(a, b) => [2, a, b, 0],
+        Session::Three(a, b, c) => [3, a, b, c],
     }
 }
 
 // From the session that a memory holds, of a list of `k` messages, to the next one, which is answered too. Where there is none, or the memory holds none, it is
 // as it was. The first session is held by four bytes of zero.
-pub fn advance(k: u8, memory: &mut [u8]) -> Found
+pub fn advance(k: u8, memory: &mut [u8]) -> Option<Session>
     ensures { moved (found result) memory.new ≡ advanced k memory.old }
 {
-    if memory.len() != 4 {
-        return Found::Nothing;
-    }
-    let here = session_in(k, memory);
-    let Found::Is(s) = here else {
-        return Found::Nothing;
-    };
-    let after = next(k, s);
-    let Found::Is(t) = after else {
-        return Found::Nothing;
-    };
-    put_session(memory, t);
-    after
+    let s = session_in(k, memory)?;
+    let t = next(k, s)?;
+    memory.copy_from_slice(&bytes_of(t));
+    Some(t)
 }

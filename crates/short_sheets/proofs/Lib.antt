@@ -3,3 +3,4 @@ pub mod SessionRuns
 pub mod SessionMessages
 pub mod Texts
 pub mod ShortLaws
+pub mod Printing

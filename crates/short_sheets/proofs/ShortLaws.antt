@@ -80,24 +80,8 @@ pub record Going (s report text memory : List ℕ) : Type 0 where
   pub text-length : length text ≡ most_text
   pub memory-length : length memory ≡ 4
 
-pub going_start : (s report text : List ℕ) → s ≡ [] → length report ≡ room → length text ≡ most_text → Going s report text (0 ∷ 0 ∷ 0 ∷ 0 ∷ [])
-unfolding held
-going_start s report text e a b = record { holds = ap held (sym e); printed = []; so_far = subst (Printed []) (sym e) none_printed; report-length = a; text-length = b; memory-length = refl }
-
 -- where it goes on: to the session that the memory was moved to
 pub goes_to : (s report text memory : List ℕ) → Going s report text memory → length s ≤ 3 → (o : Option (List ℕ)) (memory2 t : List ℕ) → moved o memory2 ≡ advanced 12 memory → o ≡ some t →
     Came 12 s (some t) memory2
 goes_to s report text memory g few o memory2 t e k =
     subst (λ (x : Option (List ℕ)). Came 12 s x memory2) k (came 12 s o memory2 few (in_list g.printed s g.so_far) (e ∙ ap (advanced 12) g.holds))
-
-pub going_on : (s t report text memory report2 text2 memory2 : List ℕ) (written : ℕ) → Going s report text memory → Stands (session_text s) text2 written →
-    Came 12 s (some t) memory2 → length report2 ≡ length report → length text2 ≡ length text → length memory2 ≡ length memory →
-    Going t report2 text2 memory2
-going_on s t report text memory report2 text2 memory2 written g h e a b c = record {
-  holds = e.there t refl;
-  printed = g.printed ++ take written text2;
-  so_far = more text2 written t g.so_far h (sym e.to-next);
-  report-length = a ∙ g.report-length;
-  text-length = b ∙ g.text-length;
-  memory-length = c ∙ g.memory-length;
-}

@@ -11,19 +11,11 @@ ghost use Rattle.short_sessions.specs.Values.{places_of};
 ghost use Rattle.short_sheets.specs.Short.{Stands, message_at, messages_of, places_line, session_text, texts_of};
 ghost use Rattle.short_sheets.specs.Requirements.{MessagesRoom, SessionRoom};
 
-use short_sessions::{Found, Session};
+use short_sessions::Session;
 use std::io;
 use std::io::Write;
 
 // The messages of a session -------------------------------------------------------------------
-
-// The bytes of `list` from one position to another at `at`, and the position after them.
-fn put_part(out: &mut [u8], at: usize, list: &[u8], from: usize, end: usize) -> usize
-    requires { (from ≤ end) × (end ≤ length list.now) }
-    ensures { seen out.new result ≡ seen out.old at plus take (end - from) (drop from list.now) }
-{
-    records::put(out, at, &list[from..end])
-}
 
 // The message at a place of the list, which is a line here.
 fn put_message(out: &mut [u8], at: usize, place: u8) -> usize
@@ -42,11 +34,9 @@ fn put_message(out: &mut [u8], at: usize, place: u8) -> usize
         \x0d\0\x04\0\0\0\0\0\0\x73\0\0\0\
         \x06\0\x05\0\0\0\
         \x06\0\x05\0\x01\0";
-    let starts = [0u8, 6, 12, 30, 48, 69, 87, 95, 99, 104, 117, 123, 129];
-    let i = place as usize;
-    let from = starts[i] as usize;
-    let end = starts[i + 1] as usize;
-    put_part(out, at, list, from, end)
+    let starts = [0, 6, 12, 30, 48, 69, 87, 95, 99, 104, 117, 123, 129];
+    let i = usize::from(place);
+    records::put(out, at, &list[starts[i]..starts[i + 1]])
 }
 
 // A session's messages at the start of a memory, and how many bytes they are.
@@ -75,7 +65,7 @@ fn put_messages(out: &mut [u8], s: Session) -> usize
 fn printed(place: u8) -> u32
     ensures { result ≡ suc place }
 {
-    place as u32 + 1
+    u32::from(place) + 1
 }
 
 // The line of a session's places.
@@ -84,18 +74,9 @@ fn put_places(out: &mut [u8], s: Session) -> usize
 {
     match s {
         Session::Empty => records::put(out, 0, b"\n"),
-        Session::One(a) => {
-            let none = [0u32; 0];
-            text::put_fields(out, 0, printed(a), &none)
-        }
-        Session::Two(a, b) => {
-            let other = [printed(b)];
-            text::put_fields(out, 0, printed(a), &other)
-        }
-        Session::Three(a, b, c) => {
-            let others = [printed(b), printed(c)];
-            text::put_fields(out, 0, printed(a), &others)
-        }
+        Session::One(a) => text::put_fields(out, 0, printed(a), &[]),
+        Session::Two(a, b) => text::put_fields(out, 0, printed(a), &[printed(b)]),
+        Session::Three(a, b, c) => text::put_fields(out, 0, printed(a), &[printed(b), printed(c)]),
     }
 }
 
@@ -128,16 +109,13 @@ fn print_sessions<W: Write>(out: &mut W) -> io::Result<()>
     let mut report = [0u8; 31299];
     let mut text = [0u8; 78256];
     let mut memory = [0u8; 4];
-    let mut s = short_sessions::empty();
-    loop {
+    let mut next = Some(short_sessions::empty());
+    while let Some(s) = next {
         let written = put_session(s, &mut report, &mut text);
         out.write_all(&text[..written])?;
-        let after = short_sessions::advance(12, &mut memory);
-        let Found::Is(t) = after else {
-            return Ok(());
-        };
-        s = t;
+        next = short_sessions::advance(12, &mut memory);
     }
+    Ok(())
 }
 
 // No clause says which bytes standard output takes, so none here does. A failed write is told on standard error, and an error there is let go.

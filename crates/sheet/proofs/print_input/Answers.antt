@@ -4,7 +4,9 @@ use borrow.Author.Tests.{ltb-true, ltb-false}
 use Rattle.std.specs.declared.option.Option.{Option}
 use Rattle.std.specs.Io.KnownBytes.{Appends, Consumes, IsAtEnd}
 use Rattle.sheet.specs.Sheet.{most_input, sheet_text}
-use Rattle.sheet.specs.Streams.{PrintsInput}
+use Rattle.sheet.specs.Streams.{PrintsInput, ReadFrom}
+use Rattle.std.proofs.lemmas.Result.{on_ok_weaker}
+use Rattle.sheet.proofs.Errors.{ok_kept}
 use Rattle.sheet.proofs.print_input.Goals as goal
 
 -- what was read are the reader's first bytes
@@ -29,4 +31,9 @@ printed_of (Some xs) None memory n a b len fits r w = absurd r.0
 printed_of (Some xs) (Some ys) memory n a b len fits r w = subst (λ l. Appends a b (sheet_text l)) (first_bytes xs ys memory n most_input len fits r.0 r.1) w
 
 pub returns : goal.returns
-returns g c = λ t. printed_of _ _ c.read_input-found.new.buf c.in-Bytes.n _ _ (search rules) c.in-Bytes.ensures.within c.in-Bytes.ensures.bytes (c.print_list.ensures t)
+returns g c =
+    let was = c.in_ok-n.ensures in
+    let memory = c.read_input.new.buf in
+    let fits = ok_kept _ _ _ (λ n. n ≤ length memory) _ was.cases was.variant c.read_input.ensures.within in
+    let bytes = ok_kept _ _ _ (ReadFrom (g.R.Read.remaining c.args.reader.now) (g.R.Read.remaining c.read_input.new.reader) memory) _ was.cases was.variant c.read_input.ensures.bytes in
+    on_ok_weaker c.print_list.result (printed_of _ _ memory c.in_ok-n.n _ _ (search rules) fits bytes) c.print_list.ensures

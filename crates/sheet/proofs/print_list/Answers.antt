@@ -6,6 +6,7 @@ use Rattle.demands.specs.Most.{most_report_bytes}
 use Rattle.sheet.specs.declared.Progress.{Progress}
 use Rattle.sheet.specs.Sheet.{Prints, none_printed, more, most_input, most_text, sheet_text, started}
 use Rattle.sheet.proofs.SheetLaws.{Going, stands-start, whole-list}
+use Rattle.sheet.proofs.Errors.{done_kept}
 use Rattle.sheet.proofs.print_list.Goals as goal
 
 -- where the loop stands, and what the writer took on the way
@@ -38,7 +39,7 @@ pub loop-p-init : goal.loop-p-init
 loop-p-init g c = at_first _ _ _ _ _ c.start-p.ensures refl refl
 
 pub loop-p-preserved : goal.loop-p-preserved
-loop-p-preserved g c = then _ _ _ _ _ _ _ _ _ _ c.loop-p.invariant c.advance-p.ensures (search rules) (search rules) c.in_default.ensures.bytes
+loop-p-preserved g c = then _ _ _ _ _ _ _ _ _ _ c.loop-p.invariant c.advance-p.ensures (search rules) (search rules) (done_kept _ c.in_ok-map_err.ensures.variant c.write_all.ensures.bytes)
 
 pub returns : goal.returns
-returns g c = λ _. at_last _ _ _ _ _ _ c.requires c.loop-p.invariant c.loop-p-test.false
+returns g c = at_last _ _ _ _ _ _ c.requires c.loop-p.invariant c.loop-p-test.false

@@ -25,10 +25,10 @@ loop-done-preserved g c =
     let old = c.loop-done.buf in
     let room = length old - from in
     let before = c.loop-done.invariant in
-    let part = part-written from room c.in-Ok.more old c.read.new.buf before.within c.in-Ok.ensures.bound.0 in
-    let whole = joined from (from + c.in-Ok.more) old (put_mid from room old c.read.new.buf) (omega arith) (take-put_mid_below _ _ _ _ _ (le_refl _) before.within) in
+    let part = part-written from room c.in_ok-more.more old c.read.new.buf before.within c.in_ok-more.ensures.bound.0 in
+    let whole = joined from (from + c.in_ok-more.more) old (put_mid from room old c.read.new.buf) (omega arith) (take-put_mid_below _ _ _ _ _ (le_refl _) before.within) in
     record {
       same = search rules;
       within = search rules;
-      bytes = subst (Consumes _ _) (ap (λ l. take from old ++ l) (sym part) ∙ whole) (Consumes-trans _ _ _ _ _ before.bytes c.in-Ok.ensures.bytes.0);
+      bytes = subst (Consumes _ _) (ap (λ l. take from old ++ l) (sym part) ∙ whole) (Consumes-trans _ _ _ _ _ before.bytes c.in_ok-more.ensures.bytes.0);
     }

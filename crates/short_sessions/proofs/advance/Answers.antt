@@ -1,23 +1,17 @@
 use mathlib.Core.Path.{◌∙◌, ap, sym}
+use borrow.Author.Rules.{rules}
 use Rattle.short_sessions.specs.Held.{moved}
-use Rattle.short_sessions.specs.Values.{found}
-use Rattle.short_sessions.proofs.Holding.{holds-none, moved_on, none_after, other_length}
+use Rattle.short_sessions.proofs.Holding.{four_bytes, holds-none, moved_on, none_after}
 use Rattle.short_sessions.proofs.advance.Goals as goal
 
-pub returns-then-memory-ne4 : goal.returns-then-memory-ne4
-returns-then-memory-ne4 c = other_length _ _ c.if-memory-ne4.true
+pub returns-in_err-s : goal.returns-in_err-s
+returns-in_err-s c = rw c.from_residual.ensures (holds-none _ _ (sym c.in_err-s.ensures))
 
-pub returns-in_default : goal.returns-in_default
-returns-in_default c = holds-none _ _ (sym c.session_in-here.ensures ∙ ap found c.in_default.is)
+pub returns-in_err-t : goal.returns-in_err-t
+returns-in_err-t c = rw c.from_residual-in_err-t.ensures (none_after _ _ _ (sym c.in_ok-s.ensures) (sym c.in_err-t.ensures))
 
-pub returns-in_default-after : goal.returns-in_default-after
-returns-in_default-after c = none_after _ _ _
-    (sym c.session_in-here.ensures ∙ ap found c.in-Is.is)
-    (sym c.next-after.ensures ∙ ap found c.in_default-after.is)
+pub copy_from_slice-requires : goal.copy_from_slice-requires
+copy_from_slice-requires c = let four = four_bytes _ _ _ c.in_ok-s.ensures in search rules
 
 pub returns : goal.returns
-returns c = ap (moved _) c.put_session.ensures ∙ moved_on _ _ _ _
-    (sym c.session_in-here.ensures ∙ ap found
-    c.in-Is.is)
-    (sym c.next-after.ensures ∙ ap found
-    c.in-Is-after.is)
+returns c = ap (moved _) (c.copy_from_slice.ensures.after ∙ c.bytes_of.ensures) ∙ moved_on _ _ _ _ (sym c.in_ok-s.ensures) (sym c.in_ok-t.ensures)
