@@ -4,7 +4,7 @@
 
 // A regular order: quantity is what is left of it, reserve what of that it does not show, display the shown quantity that it shows again before settling (or
 // what is left of it, where that is less). Its place is free when its quantity is 0.
-#[derive(Clone, Copy)]
+#[derive(Clone, Copy, Debug, PartialEq, Eq)]
 pub struct Regular {
     pub id: u32,
     pub series: u8,
@@ -17,7 +17,7 @@ pub struct Regular {
 
 // A two-leg complex order; limit is N. A unit of it is ratio1 contracts of the first leg and ratio2 of the second, and its quantity is in units.
 // Its place is free when its quantity is 0.
-#[derive(Clone, Copy)]
+#[derive(Clone, Copy, Debug, PartialEq, Eq)]
 pub struct Complex {
     pub id: u32,
     pub series1: u8,
@@ -32,7 +32,7 @@ pub struct Complex {
 }
 
 // A legging order; its place says its series and side. The place is free when its quantity is 0.
-#[derive(Clone, Copy)]
+#[derive(Clone, Copy, Debug, PartialEq, Eq)]
 pub struct Legging {
     pub parent: u32,
     pub price: u32,
@@ -40,7 +40,7 @@ pub struct Legging {
 }
 
 // A series' status and its away prices (0: none).
-#[derive(Clone, Copy)]
+#[derive(Clone, Copy, Debug, PartialEq, Eq)]
 pub struct Listed {
     pub status: u8,
     pub bid: u32,
@@ -49,7 +49,7 @@ pub struct Listed {
 
 // An edition of a figure, with the number of the message that entered it: figure 0 to 7 is the increment of that series, 8 the percent of the band.
 // Its place is free when its edition is 0.
-#[derive(Clone, Copy)]
+#[derive(Clone, Copy, Debug, PartialEq, Eq)]
 pub struct Edition {
     pub edition: u32,
     pub message: u32,
@@ -58,7 +58,7 @@ pub struct Edition {
 }
 
 // The numbers of the messages of a series' last 20 generations, oldest first; 0 where there were fewer.
-#[derive(Clone, Copy)]
+#[derive(Clone, Copy, Debug, PartialEq, Eq)]
 pub struct Generations {
     pub messages: [u32; 20],
 }
