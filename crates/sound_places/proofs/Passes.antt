@@ -1,17 +1,19 @@
 -- Laws of a pass over a list: every element passes a test, and the test of the arrangement.
 use Rattle.std.specs.Prelude.{if◌then◌else◌}
 use mathlib.Core.Path.{◌≡◌, refl, sym, ap, ap₂, ◌∙◌}
-use mathlib.Core.Bool.{Bool, true, false, not, ◌&&◌, ◌||◌, true≢false}
+use mathlib.Core.Bool.{Bool, true, false, not, ◌&&◌, ◌||◌}
 use mathlib.Core.List.{List, [], ◌∷◌}
 use Prim.Native.Nat.{ℕ, suc, ◌+◌, ◌-◌, ◌≤◌, ◌<◌}
 use native.Mathlib.Omega.{arith}
 use native.Mathlib.Numerals.{add-one}
-use borrow.Author.Tests.{eq-eqb, ne_eqb, ltb-true, ltb-false, lt-ltb, le-ltb, leb-true, lt-leb, le-leb}
+use native.Mathlib.Decide.{ℕ_discrete}
+use Rattle.std.specs.Cmp.{signed_Decides}
+use Rattle.std.specs.Ordering.{int_eq}
+use borrow.Author.Tests.{eq-eqb, ne_eqb, lt-ltb, le-ltb, leb-true, lt-leb, le-leb}
 use lib.Dec.{eqb, leb, ltb}
 use lib.IntN.{ℤ, pos, negsuc, nat_abs}
-use lib.Signed.{lt_z}
-use lib.ListN.{length, get_or, drop, drop_of_length-le}
-use lib.Seq.{drop-cons}
+use lib.ListN.{length, get_or, take, drop, length-drop, drop_of_length-le}
+use lib.Seq.{drop-cons, take_all}
 use Rattle.rules.specs.Base.{all}
 use Rattle.rules.specs.declared.Regular.{Regular}
 use Rattle.rules.specs.declared.Complex.{Complex}
@@ -27,6 +29,10 @@ use Rattle.rules.proofs.Ranges.{inside, within-top}
 
 drop-on : {A : Type 0} (l : List A) (d : A) (i : ℕ) → i < length l → drop i l ≡ get_or l i d ∷ drop (i + 1) l
 drop-on l d i h = drop-cons l i d h ∙ ap (λ (k : ℕ). get_or l i d ∷ drop k l) (sym (add-one i))
+
+-- the places from i on, lent
+pub rest-all : {A : Type 0} (l : List A) (n i : ℕ) → length l ≡ n → take (n - i) (drop i l) ≡ drop i l
+rest-all l n i h = take_all (n - i) (drop i l) (omega (arith, length-drop i l))
 
 -- Every element passes a test -----------------------------------------------------------------
 
@@ -233,44 +239,67 @@ module _ (l : List ℕ) (low i : ℕ) where
 
 -- A limit of zero -----------------------------------------------------------------------------
 
-pub some_below : (z : ℤ) → lt_z z (pos 0) ≡ true → eqb (nat_abs z) 0 ≡ false
-some_below (pos n) h = let q = ltb-true n 0 h in absurd (omega arith)
-some_below (negsuc n) h = ne_eqb (suc n) 0 (λ e. omega arith)
+not_true : (b : Bool) → (b ≡ true → ⊥) → b ≡ false
+not_true true h = absurd (h refl)
+not_true false h = refl
 
-pub some-above : (z : ℤ) → lt_z (pos 0) z ≡ true → eqb (nat_abs z) 0 ≡ false
-some-above (pos n) h = let q = ltb-true 0 n h in ne_eqb n 0 (λ e. omega arith)
-some-above (negsuc n) h = absurd (true≢false (sym h))
+int-zero : (z : ℤ) → int_eq z (pos 0) ≡ eqb (nat_abs z) 0
+int-zero (pos n) =
+    elim (ℕ_discrete n 0) [
+      | yes e ↦ (signed_Decides (pos n) (pos 0)).1 (ap pos e) ∙ sym (eq-eqb n 0 e)
+      | no k ↦ not_true _ (λ h. k (ap nat_abs ((signed_Decides (pos n) (pos 0)).0 h))) ∙ sym (ne_eqb n 0 k)
+    ]
+int-zero (negsuc n) =
+    not_true _ (λ h. let e : suc n ≡ 0 = ap nat_abs ((signed_Decides (negsuc n) (pos 0)).0 h) in omega arith)
+    ∙ sym (ne_eqb (suc n) 0 (λ e. omega arith))
 
-pub none_beside : (z : ℤ) → lt_z z (pos 0) ≡ false → lt_z (pos 0) z ≡ false → eqb (nat_abs z) 0 ≡ true
-none_beside (pos n) g h = let q = ltb-false 0 n h in eq-eqb n 0 (omega arith)
-none_beside (negsuc n) g h = absurd (true≢false g)
+-- A place that is equal to a free one ---------------------------------------------------------
 
--- A place whose other numbers are zero --------------------------------------------------------
+and_3 : (a b c : Bool) → (a && (b && c)) ≡ (a && b && c)
+and_3 true b c = refl
+and_3 false b c = refl
 
-pub regular-zero : (o : Regular) → o.id ≡ 0 → o.series ≡ 0 → o.side ≡ 0 → o.price ≡ 0 → o.quantity ≡ 0 → o.display ≡ 0 → eqb o.reserve 0 ≡ blank_regular o
+and_4 : (a b c d : Bool) → (a && (b && (c && d))) ≡ (a && b && c && d)
+and_4 true b c d = and_3 b c d
+and_4 false b c d = refl
+
+and_5 : (a b c d e : Bool) → (a && (b && (c && (d && e)))) ≡ (a && b && c && d && e)
+and_5 true b c d e = and_4 b c d e
+and_5 false b c d e = refl
+
+and_6 : (a b c d e f : Bool) → (a && (b && (c && (d && (e && f))))) ≡ (a && b && c && d && e && f)
+and_6 true b c d e f = and_5 b c d e f
+and_6 false b c d e f = refl
+
+and_7 : (a b c d e f g : Bool) → (a && (b && (c && (d && (e && (f && g)))))) ≡ (a && b && c && d && e && f && g)
+and_7 true b c d e f g = and_6 b c d e f g
+and_7 false b c d e f g = refl
+
+and_8 : (a b c d e f g h : Bool) → (a && (b && (c && (d && (e && (f && (g && h))))))) ≡ (a && b && c && d && e && f && g && h)
+and_8 true b c d e f g h = and_7 b c d e f g h
+and_8 false b c d e f g h = refl
+
+and_9 : (a b c d e f g h i : Bool) → (a && (b && (c && (d && (e && (f && (g && (h && i)))))))) ≡ (a && b && c && d && e && f && g && h && i)
+and_9 true b c d e f g h i = and_8 b c d e f g h i
+and_9 false b c d e f g h i = refl
+
+and_10 : (a b c d e f g h i j : Bool) → (a && (b && (c && (d && (e && (f && (g && (h && (i && j))))))))) ≡ (a && b && c && d && e && f && g && h && i && j)
+and_10 true b c d e f g h i j = and_9 b c d e f g h i j
+and_10 false b c d e f g h i j = refl
+
+pub regular-same : (o : Regular) → (eqb o.id 0 && (eqb o.series 0 && (eqb o.side 0 && (eqb o.price 0 && (eqb o.quantity 0 && (eqb o.display 0 && (eqb o.reserve 0))))))) ≡ blank_regular o
 unfolding blank_regular
-regular-zero o a b c d e f =
-    rw (eq-eqb o.id 0 a, eq-eqb o.series 0 b, eq-eqb o.side 0 c, eq-eqb o.price 0 d, eq-eqb o.quantity 0 e, eq-eqb o.display 0 f)
+regular-same o = and_7 (eqb o.id 0) (eqb o.series 0) (eqb o.side 0) (eqb o.price 0) (eqb o.quantity 0) (eqb o.display 0) (eqb o.reserve 0)
 
-pub edition-zero : (e : Edition) → e.edition ≡ 0 → e.message ≡ 0 → e.figure ≡ 0 → eqb e.value 0 ≡ blank_edition e
-unfolding blank_edition
-edition-zero e a b c = rw (eq-eqb e.edition 0 a, eq-eqb e.message 0 b, eq-eqb e.figure 0 c)
-
-pub complex-zero : (c : Complex) → c.id ≡ 0 → c.series1 ≡ 0 → c.side1 ≡ 0 → c.series2 ≡ 0 → c.side2 ≡ 0 → c.class ≡ 0 → eqb (nat_abs c.limit) 0 ≡ true →
-    c.quantity ≡ 0 → c.ratio1 ≡ 0 → eqb c.ratio2 0 ≡ blank_complex c
+pub complex-same : (c : Complex) → (eqb c.id 0 && (eqb c.series1 0 && (eqb c.side1 0 && (eqb c.series2 0 && (eqb c.side2 0 && (eqb c.class 0 && (int_eq c.limit (pos 0) && (eqb c.quantity 0 && (eqb c.ratio1 0 && (eqb c.ratio2 0)))))))))) ≡ blank_complex c
 unfolding blank_complex
-complex-zero x a b c d e f g q r =
-    rw (
-      eq-eqb x.id 0 a,
-      eq-eqb x.series1 0 b,
-      eq-eqb x.side1 0 c,
-      eq-eqb x.series2 0 d,
-      eq-eqb x.side2 0 e,
-      eq-eqb x.class 0 f,
-      g,
-      eq-eqb x.quantity 0 q,
-      eq-eqb x.ratio1 0 r,
-    )
+complex-same c =
+    ap (λ (t : Bool). eqb c.id 0 && (eqb c.series1 0 && (eqb c.side1 0 && (eqb c.series2 0 && (eqb c.side2 0 && (eqb c.class 0 && (t && (eqb c.quantity 0 && (eqb c.ratio1 0 && (eqb c.ratio2 0)))))))))) (int-zero c.limit)
+    ∙ and_10 (eqb c.id 0) (eqb c.series1 0) (eqb c.side1 0) (eqb c.series2 0) (eqb c.side2 0) (eqb c.class 0) (eqb (nat_abs c.limit) 0) (eqb c.quantity 0) (eqb c.ratio1 0) (eqb c.ratio2 0)
+
+pub edition-same : (e : Edition) → (eqb e.edition 0 && (eqb e.message 0 && (eqb e.figure 0 && (eqb e.value 0)))) ≡ blank_edition e
+unfolding blank_edition
+edition-same e = and_4 (eqb e.edition 0) (eqb e.message 0) (eqb e.figure 0) (eqb e.value 0)
 
 pub and_assoc : (a b c d : Bool) → (a && b && c && d) ≡ (a && (b && c && d))
 and_assoc true b c d = refl

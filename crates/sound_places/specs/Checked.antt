@@ -1,5 +1,5 @@
 -- The check of the places of a venue held by value.
-use Rattle.std.specs.Prelude.{Bool, true, not, ◌&&◌, List, ℕ, leb}
+use Rattle.std.specs.Prelude.{Bool, true, ◌&&◌, List, ℕ, leb}
 use Rattle.rules.specs.declared.Regular.{Regular}
 use Rattle.rules.specs.declared.Complex.{Complex}
 use Rattle.rules.specs.declared.Edition.{Edition}

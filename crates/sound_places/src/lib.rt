@@ -1,7 +1,7 @@
 // Whether each place of a venue that is held by value is sound by itself.
 #![tactic(auto)]
 
-ghost use Rattle.std.specs.Prelude.{◌≡◌, ◌<◌, ◌&&◌, leb, drop};
+ghost use Rattle.std.specs.Prelude.{◌≡◌, ◌&&◌, Bool, leb};
 ghost use Rattle.rules.specs.Base.{all};
 ghost use Rattle.rules.specs.Places.{blank_regular, blank_complex, blank_edition};
 ghost use Rattle.rules.specs.Sound.{listed_in_range, edition_in_range};
@@ -11,42 +11,47 @@ use rules::{Complex, Edition, Generations, Listed, Regular, Venue};
 
 // Places by themselves ------------------------------------------------------------------------
 
-// A regular place that is all zero.
-fn blank_regular(o: Regular) -> bool
-    ensures { result ≡ blank_regular o }
-{
-    if o.id != 0 {
-        return false;
-    }
-    if o.series != 0 {
-        return false;
-    }
-    if o.side != 0 {
-        return false;
-    }
-    if o.price != 0 {
-        return false;
-    }
-    if o.quantity != 0 {
-        return false;
-    }
-    if o.display != 0 {
-        return false;
-    }
-    o.reserve == 0
+// A place of the orders or the editions.
+trait Place {
+    // Whether all of it is zero.
+    ghost blank: { Self → Bool };
+
+    fn is_blank(&self) -> bool
+        ensures { result ≡ blank self.now };
 }
 
-// All places from one on are zero.
-fn regulars_blank(l: [Regular; 128], from: usize) -> bool
-    ensures { result ≡ all blank_regular (drop from l) }
+impl Place for Regular {
+    ghost blank = { blank_regular };
+
+    fn is_blank(&self) -> bool {
+        *self == rules::NO_REGULAR
+    }
+}
+
+impl Place for Complex {
+    ghost blank = { blank_complex };
+
+    fn is_blank(&self) -> bool {
+        *self == rules::NO_COMPLEX
+    }
+}
+
+impl Place for Edition {
+    ghost blank = { blank_edition };
+
+    fn is_blank(&self) -> bool {
+        *self == rules::NO_EDITION
+    }
+}
+
+// Whether all of some places are zero.
+fn all_blank<T: Place>(places: &[T]) -> bool
+    ensures { result ≡ all T.blank places.now }
 {
-    let mut i = from;
-    while i < 128 {
-        let o = l[i];
-        if !blank_regular(o) {
+    for place in places {
+        if !place.is_blank() {
             return false;
         }
-        i += 1;
     }
     true
 }
@@ -65,15 +70,14 @@ fn regular_asked(o: Regular, last: u32) -> bool
 }
 
 // Held places come first, each as asked and in rising id; then places that are all zero.
-fn regulars_sound(l: [Regular; 128], last: u32) -> bool
-    ensures { result ≡ regulars_from last 0 l }
+fn regulars_sound(l: &[Regular; 128], last: u32) -> bool
+    ensures { result ≡ regulars_from last 0 l.now }
 {
     let mut low: u32 = 0;
-    let mut i: usize = 0;
-    while i < 128 {
+    for i in 0..128 {
         let o = l[i];
         if o.quantity == 0 {
-            return regulars_blank(l, i);
+            return all_blank(&l[i..]);
         }
         if o.id <= low {
             return false;
@@ -82,74 +86,19 @@ fn regulars_sound(l: [Regular; 128], last: u32) -> bool
             return false;
         }
         low = o.id;
-        i += 1;
-    }
-    true
-}
-
-// A complex place that is all zero.
-fn blank_complex(c: Complex) -> bool
-    ensures { result ≡ blank_complex c }
-{
-    if c.id != 0 {
-        return false;
-    }
-    if c.series1 != 0 {
-        return false;
-    }
-    if c.side1 != 0 {
-        return false;
-    }
-    if c.series2 != 0 {
-        return false;
-    }
-    if c.side2 != 0 {
-        return false;
-    }
-    if c.class != 0 {
-        return false;
-    }
-    let limit = c.limit;
-    if limit < 0 {
-        return false;
-    }
-    if 0 < limit {
-        return false;
-    }
-    if c.quantity != 0 {
-        return false;
-    }
-    if c.ratio1 != 0 {
-        return false;
-    }
-    c.ratio2 == 0
-}
-
-// Every complex place from one on is blank.
-fn complexes_blank(l: [Complex; 32], from: usize) -> bool
-    ensures { result ≡ all blank_complex (drop from l) }
-{
-    let mut i = from;
-    while i < 32 {
-        let c = l[i];
-        if !blank_complex(c) {
-            return false;
-        }
-        i += 1;
     }
     true
 }
 
 // The complex places are sound: ids rise, fields are in their ranges, and free places are blank and last.
-fn complexes_sound(l: [Complex; 32], last: u32) -> bool
-    ensures { result ≡ complexes_from last 0 l }
+fn complexes_sound(l: &[Complex; 32], last: u32) -> bool
+    ensures { result ≡ complexes_from last 0 l.now }
 {
     let mut low: u32 = 0;
-    let mut i: usize = 0;
-    while i < 32 {
+    for i in 0..32 {
         let c = l[i];
         if c.quantity == 0 {
-            return complexes_blank(l, i);
+            return all_blank(&l[i..]);
         }
         if c.id <= low {
             return false;
@@ -161,7 +110,6 @@ fn complexes_sound(l: [Complex; 32], last: u32) -> bool
             return false;
         }
         low = c.id;
-        i += 1;
     }
     true
 }
@@ -180,47 +128,14 @@ fn listed_in_range(x: Listed) -> bool
 }
 
 // Every series' status and away prices are in their ranges.
-fn series_sound(l: [Listed; 8]) -> bool
-    ensures { result ≡ all listed_in_range l }
+fn series_sound(l: &[Listed; 8]) -> bool
+    ensures { result ≡ all listed_in_range l.now }
 {
-    let mut i: usize = 0;
-    while i < 8 {
+    for i in 0..8 {
         let x = l[i];
         if !listed_in_range(x) {
             return false;
         }
-        i += 1;
-    }
-    true
-}
-
-// An edition place that is all zero.
-fn blank_edition(e: Edition) -> bool
-    ensures { result ≡ blank_edition e }
-{
-    if e.edition != 0 {
-        return false;
-    }
-    if e.message != 0 {
-        return false;
-    }
-    if e.figure != 0 {
-        return false;
-    }
-    e.value == 0
-}
-
-// Every place of the editions from one on is blank.
-fn editions_blank(l: [Edition; 32], from: usize) -> bool
-    ensures { result ≡ all blank_edition (drop from l) }
-{
-    let mut i = from;
-    while i < 32 {
-        let e = l[i];
-        if !blank_edition(e) {
-            return false;
-        }
-        i += 1;
     }
     true
 }
@@ -239,16 +154,15 @@ fn edition_in_range(e: Edition) -> bool
 }
 
 // Held places come first, in range, and rise in both numbers; then places that are all zero.
-fn editions_sound(l: [Edition; 32]) -> bool
-    ensures { result ≡ editions_from 0 0 l }
+fn editions_sound(l: &[Edition; 32]) -> bool
+    ensures { result ≡ editions_from 0 0 l.now }
 {
     let mut low: u32 = 0;
     let mut past: u32 = 0;
-    let mut i: usize = 0;
-    while i < 32 {
+    for i in 0..32 {
         let e = l[i];
         if e.edition == 0 {
-            return editions_blank(l, i);
+            return all_blank(&l[i..]);
         }
         if e.edition <= low {
             return false;
@@ -261,7 +175,6 @@ fn editions_sound(l: [Edition; 32]) -> bool
         }
         low = e.edition;
         past = e.message;
-        i += 1;
     }
     true
 }
@@ -274,48 +187,40 @@ fn is_unfallen(low: u32, n: u32) -> bool
 }
 
 // A series' generations do not fall in number.
-fn numbers_sound(l: [u32; 20]) -> bool
-    ensures { result ≡ numbers_from 0 l }
+fn numbers_sound(l: &[u32; 20]) -> bool
+    ensures { result ≡ numbers_from 0 l.now }
 {
     let mut low: u32 = 0;
-    let mut i: usize = 0;
-    while i < 20 {
+    for i in 0..20 {
         let n = l[i];
         if !is_unfallen(low, n) {
             return false;
         }
         low = n;
-        i += 1;
     }
     true
 }
 
 // Every series' generations are sound.
-fn generations_sound(l: [Generations; 8]) -> bool
-    ensures { result ≡ all numbers_sound l }
+fn generations_sound(l: &[Generations; 8]) -> bool
+    ensures { result ≡ all numbers_sound l.now }
 {
-    let mut i: usize = 0;
-    while i < 8 {
-        let g = l[i];
-        let messages = g.messages;
-        if !numbers_sound(messages) {
+    for i in 0..8 {
+        if !numbers_sound(&l[i].messages) {
             return false;
         }
-        i += 1;
     }
     true
 }
 
 // What is kept beside the orders and the series: editions, generations, and the id that limited sweeps have reached.
-fn kept_sound(v: Venue) -> bool
-    ensures { result ≡ kept_sound v }
+fn kept_sound(v: &Venue) -> bool
+    ensures { result ≡ kept_sound v.now }
 {
-    let editions = v.editions;
-    if !editions_sound(editions) {
+    if !editions_sound(&v.editions) {
         return false;
     }
-    let generations = v.generations;
-    if !generations_sound(generations) {
+    if !generations_sound(&v.generations) {
         return false;
     }
     v.reached <= v.last
@@ -325,17 +230,14 @@ fn kept_sound(v: Venue) -> bool
 pub fn places_sound(v: Venue) -> bool
     ensures { result ≡ places_sound v }
 {
-    let regular = v.regular;
-    if !regulars_sound(regular, v.last) {
+    if !regulars_sound(&v.regular, v.last) {
         return false;
     }
-    let complex = v.complex;
-    if !complexes_sound(complex, v.last) {
+    if !complexes_sound(&v.complex, v.last) {
         return false;
     }
-    let series = v.series;
-    if !series_sound(series) {
+    if !series_sound(&v.series) {
         return false;
     }
-    kept_sound(v)
+    kept_sound(&v)
 }

@@ -5,10 +5,13 @@ use Prim.Native.Nat.{ℕ, suc, ◌+◌, ◌-◌, ◌*◌, ◌≤◌, ◌<◌, ze
 use native.Mathlib.Nat.{mul-zero, mul-suc, mul-le-mul_left}
 use native.Mathlib.Omega.{arith}
 use native.Mathlib.Numerals.{add-one}
-use lib.ListN.{length, get_or, take, drop, length-append}
+use lib.ListN.{length, get_or, set, take, drop, length-append}
 use lib.Seq.{take-suc, take_all, length-take-le}
 use Rattle.records.specs.Seen.{Seen, seen, pasted, ◌plus◌}
 use Rattle.records.proofs.SeenLaws.{plus-in, pasted-nil, pasted_length, pasted-pasted, part-all}
+use Rattle.std.proofs.lemmas.List.{take_more_set}
+use Rattle.places.specs.Layout.{upto}
+use Rattle.places.proofs.Tables.{upto-more}
 use Rattle.venue_bytes.specs.Held.{rows, row_at, rows_at}
 
 module _ {A : Type 0} (row : A → List ℕ) where
@@ -71,20 +74,27 @@ module _ {A : Type 0} (row : A → List ℕ) where
                 ∙ ap (pasted out₀ from) (sym more);
           }
 
+-- one row more of a table, read
+pub filled_next : {A : Type 0} (f : ℕ → A) (i : ℕ) (r : List A) (x : A) → i < length r → take i r ≡ upto f 0 i → x ≡ f i →
+    take (i + 1) (set r i x) ≡ upto f 0 (i + 1)
+filled_next {A} f i r x h e p =
+    take_more_set r i x h ∙ ap₂ (λ (a : List A) (y : A). a ++ y ∷ []) e p ∙ sym (upto-more f i) ∙ ap (upto f 0) (sym (add-one i))
+
 -- the row at a position, read from the bytes lent from there on
-pub row_read : {A : Type 0} (row : List ℕ → A) (from width : ℕ) (s : List ℕ) (i at : ℕ) (x : A) → at ≡ width * i + from →
-    x ≡ row (take (length s - at) (drop at s)) → x ≡ row_at row from width s i
+pub row_read : {A : Type 0} (row : List ℕ → A) (from width : ℕ) (s : List ℕ) (i : ℕ) (x : A) →
+    x ≡ row (take (length s - (width * i + from)) (drop (width * i + from) s)) → x ≡ row_at row from width s i
 unfolding row_at
-row_read row from width s i at x e p = p ∙ ap row (part-all s at ∙ ap (λ (k : ℕ). drop k s) e)
+row_read row from width s i x p = p ∙ ap row (part-all s (width * i + from))
 
 -- an order, read from its two rows
-pub rows-read : {A : Type 0} (read : List ℕ → List ℕ → A) (from width later short : ℕ) (s : List ℕ) (i at next : ℕ) (x : A) → at ≡ width * i + from → next ≡ short * i + later →
-    x ≡ read (take (length s - at) (drop at s)) (take (length s - next) (drop next s)) → x ≡ rows_at read from width later short s i
+pub rows-read : {A : Type 0} (read : List ℕ → List ℕ → A) (from width later short : ℕ) (s : List ℕ) (i : ℕ) (x : A) →
+    x ≡ read (take (length s - (width * i + from)) (drop (width * i + from) s)) (take (length s - (short * i + later)) (drop (short * i + later) s)) →
+    x ≡ rows_at read from width later short s i
 unfolding rows_at
-rows-read {A} read from width later short s i at next x e f p =
-    let row : List ℕ = take (length s - at) (drop at s) in
-    row_read (read row) later short s i next x f p
-    ∙ ap (λ (g : List ℕ → A). row_at g later short s i) (row_read read from width s i at (read row) e refl)
+rows-read {A} read from width later short s i x p =
+    let row : List ℕ = take (length s - (width * i + from)) (drop (width * i + from) s) in
+    row_read (read row) later short s i x p
+    ∙ ap (λ (g : List ℕ → A). row_at g later short s i) (row_read read from width s i (read row) refl)
 
 -- bytes written at a position are the row's
 pub row_put : (l m : List ℕ) (at end : ℕ) (a b : List ℕ) → seen m end ≡ seen l at plus a → a ≡ b → m ≡ (seen l at plus b).memory

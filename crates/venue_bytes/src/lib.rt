@@ -1,10 +1,10 @@
 // A venue held as bytes (specs/Held.antt): read.
 #![tactic(auto)]
 
-ghost use Rattle.std.specs.Prelude.{◌≡◌, ◌≤◌, length, replicate};
-ghost use Rattle.rules.specs.Words.{no_regular};
-ghost use Rattle.venue_bytes.specs.Held.{venue_size};
-ghost use Rattle.venue_bytes.specs.Held.{regular_from, complex_from, legging_from, listed_from, edition_from, generations_from, venue_from};
+ghost use Rattle.std.specs.Prelude.{◌≡◌, ◌<◌, ℕ, List, length};
+ghost use Rattle.places.specs.Layout.{upto};
+ghost use Rattle.venue_bytes.specs.Held.{venue_size, editions_at, reserves_at, ratios_at, generations_at};
+ghost use Rattle.venue_bytes.specs.Held.{regular_from, complex_from, legging_from, listed_from, edition_from, generations_from, row_at, rows_at, venue_from};
 
 use rules::{Complex, Edition, Generations, Legging, Listed, Regular, Venue};
 
@@ -28,196 +28,140 @@ pub const VENUE_SIZE: usize = REACHED_AT + 4;
 
 // A row read ----------------------------------------------------------------------------------
 
-// A regular order, of its row and its reserve's row.
-fn regular_from(row: &[u8], reserve: &[u8]) -> Regular
-    requires { (14 ≤ length row.now) × (8 ≤ length reserve.now) }
-    ensures { result ≡ regular_from row.now reserve.now }
-{
-    Regular {
-        id: wire::word_at(row, 0),
-        series: wire::byte_at(row, 4),
-        side: wire::byte_at(row, 5),
-        price: wire::word_at(row, 6),
-        quantity: wire::word_at(row, 10),
-        display: wire::word_at(reserve, 4),
-        reserve: wire::word_at(reserve, 0),
+// What stands in a table of a venue, row after row.
+trait Row {
+    // What row `i` of a venue's bytes is.
+    ghost row_of: { List ℕ → ℕ → Self };
+
+    // How many rows the table has.
+    ghost many: { ℕ };
+
+    fn read(bytes: &[u8], i: usize) -> Self
+        requires { (length bytes.now ≡ venue_size) × (i < many) }
+        ensures { result ≡ row_of bytes.now i };
+}
+
+impl Row for Regular {
+    ghost row_of = { rows_at regular_from 0 14 reserves_at 8 };
+
+    ghost many = { 128 };
+
+    // A regular order, of its row and its reserve's row.
+    fn read(bytes: &[u8], i: usize) -> Regular {
+        let row = &bytes[14 * i..];
+        let reserve = &bytes[8 * i + RESERVES_AT..];
+        Regular {
+            id: wire::word_at(row, 0),
+            series: wire::byte_at(row, 4),
+            side: wire::byte_at(row, 5),
+            price: wire::word_at(row, 6),
+            quantity: wire::word_at(row, 10),
+            display: wire::word_at(reserve, 4),
+            reserve: wire::word_at(reserve, 0),
+        }
     }
 }
 
-// A complex order, of its row and its ratios' row.
-fn complex_from(row: &[u8], ratio: &[u8]) -> Complex
-    requires { (17 ≤ length row.now) × (2 ≤ length ratio.now) }
-    ensures { result ≡ complex_from row.now ratio.now }
-{
-    Complex {
-        id: wire::word_at(row, 0),
-        series1: wire::byte_at(row, 4),
-        side1: wire::byte_at(row, 5),
-        series2: wire::byte_at(row, 6),
-        side2: wire::byte_at(row, 7),
-        class: wire::byte_at(row, 8),
-        limit: wire::as_signed(wire::word_at(row, 9)),
-        quantity: wire::word_at(row, 13),
-        ratio1: wire::byte_at(ratio, 0),
-        ratio2: wire::byte_at(ratio, 1),
+impl Row for Complex {
+    ghost row_of = { rows_at complex_from 1792 17 ratios_at 2 };
+
+    ghost many = { 32 };
+
+    // A complex order, of its row and its ratios' row.
+    fn read(bytes: &[u8], i: usize) -> Complex {
+        let row = &bytes[17 * i + 1792..];
+        let ratio = &bytes[2 * i + RATIOS_AT..];
+        Complex {
+            id: wire::word_at(row, 0),
+            series1: wire::byte_at(row, 4),
+            side1: wire::byte_at(row, 5),
+            series2: wire::byte_at(row, 6),
+            side2: wire::byte_at(row, 7),
+            class: wire::byte_at(row, 8),
+            limit: wire::as_signed(wire::word_at(row, 9)),
+            quantity: wire::word_at(row, 13),
+            ratio1: wire::byte_at(ratio, 0),
+            ratio2: wire::byte_at(ratio, 1),
+        }
     }
 }
 
-// A legging order, of its row.
-fn legging_from(row: &[u8]) -> Legging
-    requires { 12 ≤ length row.now }
-    ensures { result ≡ legging_from row.now }
-{
-    Legging {
-        parent: wire::word_at(row, 0),
-        price: wire::word_at(row, 4),
-        quantity: wire::word_at(row, 8),
+impl Row for Legging {
+    ghost row_of = { row_at legging_from 2336 12 };
+
+    ghost many = { 16 };
+
+    // A legging order, of its row.
+    fn read(bytes: &[u8], i: usize) -> Legging {
+        let row = &bytes[12 * i + 2336..];
+        Legging {
+            parent: wire::word_at(row, 0),
+            price: wire::word_at(row, 4),
+            quantity: wire::word_at(row, 8),
+        }
     }
 }
 
-// A series' status and away prices, of their row.
-fn listed_from(row: &[u8]) -> Listed
-    requires { 9 ≤ length row.now }
-    ensures { result ≡ listed_from row.now }
-{
-    Listed {
-        status: wire::byte_at(row, 0),
-        bid: wire::word_at(row, 1),
-        offer: wire::word_at(row, 5),
+impl Row for Listed {
+    ghost row_of = { row_at listed_from 2528 9 };
+
+    ghost many = { 8 };
+
+    // A series' status and away prices, of their row.
+    fn read(bytes: &[u8], i: usize) -> Listed {
+        let row = &bytes[9 * i + 2528..];
+        Listed {
+            status: wire::byte_at(row, 0),
+            bid: wire::word_at(row, 1),
+            offer: wire::word_at(row, 5),
+        }
     }
 }
 
-// An edition, of its row.
-fn edition_from(row: &[u8]) -> Edition
-    requires { 10 ≤ length row.now }
-    ensures { result ≡ edition_from row.now }
-{
-    Edition {
-        edition: wire::word_at(row, 0),
-        message: wire::word_at(row, 4),
-        figure: wire::byte_at(row, 8),
-        value: wire::byte_at(row, 9),
+impl Row for Edition {
+    ghost row_of = { row_at edition_from editions_at 10 };
+
+    ghost many = { 32 };
+
+    // An edition, of its row.
+    fn read(bytes: &[u8], i: usize) -> Edition {
+        let row = &bytes[10 * i + EDITIONS_AT..];
+        Edition {
+            edition: wire::word_at(row, 0),
+            message: wire::word_at(row, 4),
+            figure: wire::byte_at(row, 8),
+            value: wire::byte_at(row, 9),
+        }
     }
 }
 
-// A series' generations, of their row.
-fn generations_from(row: &[u8]) -> Generations
-    requires { 80 ≤ length row.now }
-    ensures { result ≡ generations_from row.now }
-{
-    let mut messages = [0u32; 20];
-    let mut k: usize = 0;
-    while k < 20 {
-        let x = wire::word_at(row, 4 * k);
-        messages[k] = x;
-        k += 1;
+impl Row for Generations {
+    ghost row_of = { row_at generations_from generations_at 80 };
+
+    ghost many = { 8 };
+
+    // A series' generations, of their row.
+    fn read(bytes: &[u8], i: usize) -> Generations {
+        let row = &bytes[80 * i + GENERATIONS_AT..];
+        let mut messages = [0u32; 20];
+        for k in 0..20 {
+            messages[k] = wire::word_at(row, 4 * k);
+        }
+        Generations { messages }
     }
-    Generations { messages }
 }
 
 // The venue read, table by table --------------------------------------------------------------
 
-// The regular orders that the bytes hold, in the places of a table that is free. They are most of a venue: the venue's own table is filled, and no
-// second one stands on the stack.
-fn read_regulars(r: &mut [Regular; 128], bytes: &[u8])
+// The rows of a table that the bytes hold. The venue's own table is filled, and no second one stands on the stack.
+fn read_table<T: Row + Drop>(table: &mut [T], bytes: &[u8])
     requires whole { length bytes.now ≡ venue_size }
-    requires free { r.old ≡ replicate 128 no_regular }
-    ensures { r.new ≡ (venue_from bytes.now).regular }
+    requires all { length table.old ≡ T.many }
+    ensures { table.new ≡ upto (T.row_of bytes.now) 0 T.many }
 {
-    let mut i: usize = 0;
-    while i < 128 {
-        let at = 14 * i;
-        let reserve = 8 * i + RESERVES_AT;
-        let x = regular_from(&bytes[at..], &bytes[reserve..]);
-        r[i] = x;
-        i += 1;
+    for i in 0..table.len() {
+        table[i] = T::read(bytes, i);
     }
-}
-
-// The complex orders that the bytes hold.
-fn complexes_from(bytes: &[u8]) -> [Complex; 32]
-    requires { length bytes.now ≡ venue_size }
-    ensures { result ≡ (venue_from bytes.now).complex }
-{
-    let free = rules::NO_COMPLEX;
-    let mut r = [free; 32];
-    let mut i: usize = 0;
-    while i < 32 {
-        let at = 17 * i + 1792;
-        let ratio = 2 * i + RATIOS_AT;
-        let x = complex_from(&bytes[at..], &bytes[ratio..]);
-        r[i] = x;
-        i += 1;
-    }
-    r
-}
-
-// The legging orders that the bytes hold.
-fn leggings_from(bytes: &[u8]) -> [Legging; 16]
-    requires { length bytes.now ≡ venue_size }
-    ensures { result ≡ (venue_from bytes.now).legging }
-{
-    let free = rules::NO_LEGGING;
-    let mut r = [free; 16];
-    let mut i: usize = 0;
-    while i < 16 {
-        let at = 12 * i + 2336;
-        let x = legging_from(&bytes[at..]);
-        r[i] = x;
-        i += 1;
-    }
-    r
-}
-
-// The status and away prices of every series that the bytes hold.
-fn series_from(bytes: &[u8]) -> [Listed; 8]
-    requires { length bytes.now ≡ venue_size }
-    ensures { result ≡ (venue_from bytes.now).series }
-{
-    let free = rules::NOT_LISTED;
-    let mut r = [free; 8];
-    let mut i: usize = 0;
-    while i < 8 {
-        let at = 9 * i + 2528;
-        let x = listed_from(&bytes[at..]);
-        r[i] = x;
-        i += 1;
-    }
-    r
-}
-
-// The editions that the bytes hold.
-fn editions_from(bytes: &[u8]) -> [Edition; 32]
-    requires { length bytes.now ≡ venue_size }
-    ensures { result ≡ (venue_from bytes.now).editions }
-{
-    let free = rules::NO_EDITION;
-    let mut r = [free; 32];
-    let mut i: usize = 0;
-    while i < 32 {
-        let at = 10 * i + EDITIONS_AT;
-        let x = edition_from(&bytes[at..]);
-        r[i] = x;
-        i += 1;
-    }
-    r
-}
-
-// The generations of every series that the bytes hold.
-fn all_generations_from(bytes: &[u8]) -> [Generations; 8]
-    requires { length bytes.now ≡ venue_size }
-    ensures { result ≡ (venue_from bytes.now).generations }
-{
-    let none = rules::NO_GENERATIONS;
-    let mut r = [none; 8];
-    let mut i: usize = 0;
-    while i < 8 {
-        let at = 80 * i + GENERATIONS_AT;
-        let x = generations_from(&bytes[at..]);
-        r[i] = x;
-        i += 1;
-    }
-    r
 }
 
 // The venue that the bytes hold. This function is compiled by itself, as `venue_of` of crate places is.
@@ -226,23 +170,21 @@ pub fn venue_from(bytes: &[u8]) -> Venue
     requires { length bytes.now ≡ venue_size }
     ensures { result ≡ venue_from bytes.now }
 {
-    let complex = complexes_from(bytes);
-    let legging = leggings_from(bytes);
-    let series = series_from(bytes);
-    let last = wire::word_at(bytes, 2600);
-    let editions = editions_from(bytes);
-    let generations = all_generations_from(bytes);
-    let reached = wire::word_at(bytes, REACHED_AT);
     let mut v = Venue {
         regular: [rules::NO_REGULAR; 128],
-        complex,
-        legging,
-        series,
-        editions,
-        generations,
-        last,
-        reached,
+        complex: [rules::NO_COMPLEX; 32],
+        legging: [rules::NO_LEGGING; 16],
+        series: [rules::NOT_LISTED; 8],
+        editions: [rules::NO_EDITION; 32],
+        generations: [rules::NO_GENERATIONS; 8],
+        last: wire::word_at(bytes, 2600),
+        reached: wire::word_at(bytes, REACHED_AT),
     };
-    read_regulars(&mut v.regular, bytes);
+    read_table(&mut v.regular, bytes);
+    read_table(&mut v.complex, bytes);
+    read_table(&mut v.legging, bytes);
+    read_table(&mut v.series, bytes);
+    read_table(&mut v.editions, bytes);
+    read_table(&mut v.generations, bytes);
     v
 }

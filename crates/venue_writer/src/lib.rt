@@ -1,202 +1,160 @@
 // A venue written as bytes (venue_bytes' specs/Held.antt).
 #![tactic(auto)]
 
-ghost use Rattle.std.specs.Prelude.{◌≡◌, ◌+◌, ◌≤◌, length};
-ghost use Rattle.records.specs.Seen.{seen, pasted, ◌plus◌};
-ghost use Rattle.venue_bytes.specs.Held.{editions_at, reserves_at, ratios_at, generations_at, venue_size};
+ghost use Rattle.std.specs.Prelude.{◌≡◌, ◌+◌, ◌≤◌, ℕ, List, length};
+ghost use Rattle.records.specs.Seen.{seen, ◌plus◌};
+ghost use Rattle.venue_bytes.specs.Held.{venue_size};
 ghost use Rattle.venue_bytes.specs.Held.{regular_bytes, complex_bytes, legging_bytes, listed_bytes, edition_bytes, reserve_bytes, ratio_bytes, generations_bytes, rows, venue_bytes};
 
 use rules::{Complex, Edition, Generations, Legging, Listed, Regular, Venue};
 
 // A row written -------------------------------------------------------------------------------
 
-// A regular order's row.
-fn put_regular(out: &mut [u8], at: usize, o: Regular)
-    ensures { out.new ≡ (seen out.old at plus regular_bytes o).memory }
-{
-    let i = records::bytes4(o.id);
-    let head = [i[0], i[1], i[2], i[3], o.series, o.side];
-    let words = [o.price, o.quantity];
-    records::put_words(out, at, &head, &words);
+// A table of a venue: what it holds a row of, and how a row is written. Two tables hold rows of the regular orders, and two of the complex ones.
+trait Table {
+    type Of: Copy;
+
+    // A row's bytes.
+    ghost row_bytes: { Self.Of → List ℕ };
+
+    // A row written from a place on; the place after it is returned.
+    fn put(out: &mut [u8], at: usize, row: Self::Of) -> usize
+        requires { at + length (row_bytes row) ≤ length out.old }
+        ensures { seen out.new result ≡ seen out.old at plus row_bytes row };
 }
 
-// The row of a regular order's reserve.
-fn put_reserve(out: &mut [u8], at: usize, o: Regular)
-    ensures { out.new ≡ (seen out.old at plus reserve_bytes o).memory }
-{
-    let head = records::bytes4(o.reserve);
-    let words = [o.display];
-    records::put_words(out, at, &head, &words);
+struct Orders;
+
+impl Table for Orders {
+    type Of = Regular;
+
+    ghost row_bytes = { regular_bytes };
+
+    // A regular order's row.
+    fn put(out: &mut [u8], at: usize, o: Regular) -> usize {
+        let i = records::bytes4(o.id);
+        let head = [i[0], i[1], i[2], i[3], o.series, o.side];
+        records::put_words(out, at, &head, &[o.price, o.quantity])
+    }
 }
 
-// A complex order's row.
-fn put_complex(out: &mut [u8], at: usize, c: Complex)
-    ensures { out.new ≡ (seen out.old at plus complex_bytes c).memory }
-{
-    let i = records::bytes4(c.id);
-    let head = [
-        i[0], i[1], i[2], i[3], c.series1, c.side1, c.series2, c.side2, c.class,
-    ];
-    let words = [records::bits(c.limit as i64), c.quantity];
-    records::put_words(out, at, &head, &words);
+struct Reserves;
+
+impl Table for Reserves {
+    type Of = Regular;
+
+    ghost row_bytes = { reserve_bytes };
+
+    // The row of a regular order's reserve.
+    fn put(out: &mut [u8], at: usize, o: Regular) -> usize {
+        records::put_words(out, at, &records::bytes4(o.reserve), &[o.display])
+    }
 }
 
-// The row of a complex order's ratios.
-fn put_ratio(out: &mut [u8], at: usize, c: Complex)
-    ensures { out.new ≡ (seen out.old at plus ratio_bytes c).memory }
-{
-    let row = [c.ratio1, c.ratio2];
-    records::put(out, at, &row);
+struct ComplexOrders;
+
+impl Table for ComplexOrders {
+    type Of = Complex;
+
+    ghost row_bytes = { complex_bytes };
+
+    // A complex order's row.
+    fn put(out: &mut [u8], at: usize, c: Complex) -> usize {
+        let i = records::bytes4(c.id);
+        let head = [
+            i[0], i[1], i[2], i[3], c.series1, c.side1, c.series2, c.side2, c.class,
+        ];
+        let words = [records::bits(c.limit as i64), c.quantity];
+        records::put_words(out, at, &head, &words)
+    }
 }
 
-// A legging order's row.
-fn put_legging(out: &mut [u8], at: usize, l: Legging)
-    ensures { out.new ≡ (seen out.old at plus legging_bytes l).memory }
-{
-    let head = records::bytes4(l.parent);
-    let words = [l.price, l.quantity];
-    records::put_words(out, at, &head, &words);
+struct Ratios;
+
+impl Table for Ratios {
+    type Of = Complex;
+
+    ghost row_bytes = { ratio_bytes };
+
+    // The row of a complex order's ratios.
+    fn put(out: &mut [u8], at: usize, c: Complex) -> usize {
+        records::put(out, at, &[c.ratio1, c.ratio2])
+    }
 }
 
-// The row of a series' status and away prices.
-fn put_listed(out: &mut [u8], at: usize, x: Listed)
-    ensures { out.new ≡ (seen out.old at plus listed_bytes x).memory }
-{
-    let head = [x.status];
-    let words = [x.bid, x.offer];
-    records::put_words(out, at, &head, &words);
+struct Leggings;
+
+impl Table for Leggings {
+    type Of = Legging;
+
+    ghost row_bytes = { legging_bytes };
+
+    // A legging order's row.
+    fn put(out: &mut [u8], at: usize, l: Legging) -> usize {
+        records::put_words(out, at, &records::bytes4(l.parent), &[l.price, l.quantity])
+    }
 }
 
-// An edition's row.
-fn put_edition(out: &mut [u8], at: usize, x: Edition)
-    ensures { out.new ≡ (seen out.old at plus edition_bytes x).memory }
-{
-    let e = records::bytes4(x.edition);
-    let m = records::bytes4(x.message);
-    let row = [
-        e[0], e[1], e[2], e[3], m[0], m[1], m[2], m[3], x.figure, x.value,
-    ];
-    records::put(out, at, &row);
+struct Series;
+
+impl Table for Series {
+    type Of = Listed;
+
+    ghost row_bytes = { listed_bytes };
+
+    // The row of a series' status and away prices.
+    fn put(out: &mut [u8], at: usize, x: Listed) -> usize {
+        records::put_words(out, at, &[x.status], &[x.bid, x.offer])
+    }
 }
 
-// The row of a series' generations.
-fn put_generations(out: &mut [u8], at: usize, g: Generations)
-    requires { at + 80 ≤ length out.old }
-    ensures { out.new ≡ (seen out.old at plus generations_bytes g).memory }
-{
-    let messages = g.messages;
-    let mut k: usize = 0;
-    while k < 20 {
-        let number = records::bytes4(messages[k]);
-        records::put(out, 4 * k + at, &number);
-        k += 1;
+struct Editions;
+
+impl Table for Editions {
+    type Of = Edition;
+
+    ghost row_bytes = { edition_bytes };
+
+    // An edition's row.
+    fn put(out: &mut [u8], at: usize, x: Edition) -> usize {
+        let e = records::bytes4(x.edition);
+        let m = records::bytes4(x.message);
+        let row = [
+            e[0], e[1], e[2], e[3], m[0], m[1], m[2], m[3], x.figure, x.value,
+        ];
+        records::put(out, at, &row)
+    }
+}
+
+struct AllGenerations;
+
+impl Table for AllGenerations {
+    type Of = Generations;
+
+    ghost row_bytes = { generations_bytes };
+
+    // The row of a series' generations.
+    fn put(out: &mut [u8], at: usize, g: Generations) -> usize {
+        let mut end = at;
+        for number in &g.messages {
+            end = records::put(out, end, &records::bytes4(*number));
+        }
+        end
     }
 }
 
 // The venue written, table by table -----------------------------------------------------------
 
-// The regular orders' rows.
-fn put_regulars(out: &mut [u8], l: [Regular; 128])
-    requires { length out.old ≡ venue_size }
-    ensures { out.new ≡ pasted out.old 0 (rows regular_bytes l) }
+// The rows of a table, from a place on; the place after them is returned.
+fn put_rows<T: Table>(out: &mut [u8], at: usize, table: &[T::Of]) -> usize
+    requires { at + length (rows T.row_bytes table.now) ≤ length out.old }
+    ensures { seen out.new result ≡ seen out.old at plus rows T.row_bytes table.now }
 {
-    let mut i: usize = 0;
-    while i < 128 {
-        let o = l[i];
-        put_regular(out, 14 * i, o);
-        i += 1;
+    let mut end = at;
+    for row in table {
+        end = T::put(out, end, *row);
     }
-}
-
-// The complex orders' rows.
-fn put_complexes(out: &mut [u8], l: [Complex; 32])
-    requires { length out.old ≡ venue_size }
-    ensures { out.new ≡ pasted out.old 1792 (rows complex_bytes l) }
-{
-    let mut i: usize = 0;
-    while i < 32 {
-        let c = l[i];
-        put_complex(out, 17 * i + 1792, c);
-        i += 1;
-    }
-}
-
-// The legging orders' rows.
-fn put_leggings(out: &mut [u8], l: [Legging; 16])
-    requires { length out.old ≡ venue_size }
-    ensures { out.new ≡ pasted out.old 2336 (rows legging_bytes l) }
-{
-    let mut i: usize = 0;
-    while i < 16 {
-        let x = l[i];
-        put_legging(out, 12 * i + 2336, x);
-        i += 1;
-    }
-}
-
-// The series' rows.
-fn put_series(out: &mut [u8], l: [Listed; 8])
-    requires { length out.old ≡ venue_size }
-    ensures { out.new ≡ pasted out.old 2528 (rows listed_bytes l) }
-{
-    let mut i: usize = 0;
-    while i < 8 {
-        let x = l[i];
-        put_listed(out, 9 * i + 2528, x);
-        i += 1;
-    }
-}
-
-// The editions' rows.
-fn put_editions(out: &mut [u8], l: [Edition; 32])
-    requires { length out.old ≡ venue_size }
-    ensures { out.new ≡ pasted out.old editions_at (rows edition_bytes l) }
-{
-    let mut i: usize = 0;
-    while i < 32 {
-        let x = l[i];
-        put_edition(out, 10 * i + venue_bytes::EDITIONS_AT, x);
-        i += 1;
-    }
-}
-
-// The rows of the regular orders' reserves.
-fn put_reserves(out: &mut [u8], l: [Regular; 128])
-    requires { length out.old ≡ venue_size }
-    ensures { out.new ≡ pasted out.old reserves_at (rows reserve_bytes l) }
-{
-    let mut i: usize = 0;
-    while i < 128 {
-        let o = l[i];
-        put_reserve(out, 8 * i + venue_bytes::RESERVES_AT, o);
-        i += 1;
-    }
-}
-
-// The rows of the complex orders' ratios.
-fn put_ratios(out: &mut [u8], l: [Complex; 32])
-    requires { length out.old ≡ venue_size }
-    ensures { out.new ≡ pasted out.old ratios_at (rows ratio_bytes l) }
-{
-    let mut i: usize = 0;
-    while i < 32 {
-        let c = l[i];
-        put_ratio(out, 2 * i + venue_bytes::RATIOS_AT, c);
-        i += 1;
-    }
-}
-
-// The rows of the series' generations.
-fn put_all_generations(out: &mut [u8], l: [Generations; 8])
-    requires { length out.old ≡ venue_size }
-    ensures { out.new ≡ pasted out.old generations_at (rows generations_bytes l) }
-{
-    let mut i: usize = 0;
-    while i < 8 {
-        let g = l[i];
-        put_generations(out, 80 * i + venue_bytes::GENERATIONS_AT, g);
-        i += 1;
-    }
+    end
 }
 
 // The venue's bytes in the place of what stood there.
@@ -204,24 +162,14 @@ pub fn put_venue(out: &mut [u8], v: Venue)
     requires { length out.old ≡ venue_size }
     ensures { out.new ≡ venue_bytes v }
 {
-    let regular = v.regular;
-    put_regulars(out, regular);
-    let complex = v.complex;
-    put_complexes(out, complex);
-    let legging = v.legging;
-    put_leggings(out, legging);
-    let series = v.series;
-    put_series(out, series);
-    let last = records::bytes4(v.last);
-    records::put(out, 2600, &last);
-    let editions = v.editions;
-    put_editions(out, editions);
-    let reserves = v.regular;
-    put_reserves(out, reserves);
-    let ratios = v.complex;
-    put_ratios(out, ratios);
-    let generations = v.generations;
-    put_all_generations(out, generations);
-    let reached = records::bytes4(v.reached);
-    records::put(out, venue_bytes::REACHED_AT, &reached);
+    let at = put_rows::<Orders>(out, 0, &v.regular);
+    let at = put_rows::<ComplexOrders>(out, at, &v.complex);
+    let at = put_rows::<Leggings>(out, at, &v.legging);
+    let at = put_rows::<Series>(out, at, &v.series);
+    let at = records::put(out, at, &records::bytes4(v.last));
+    let at = put_rows::<Editions>(out, at, &v.editions);
+    let at = put_rows::<Reserves>(out, at, &v.regular);
+    let at = put_rows::<Ratios>(out, at, &v.complex);
+    let at = put_rows::<AllGenerations>(out, at, &v.generations);
+    records::put(out, at, &records::bytes4(v.reached));
 }

@@ -5,30 +5,32 @@ use native.Mathlib.Omega.{arith}
 use lib.ListN.{length}
 use borrow.Author.Tests.{eq-eqb, ne_eqb}
 use borrow.Author.Rules.{rules}
-use Rattle.sound_places.proofs.Passes.{editions-none, editions-free, editions-low, editions-late, editions-out, editions-past}
+use Rattle.rules.specs.Base.{all}
+use Rattle.rules.specs.Places.{blank_edition}
+use Rattle.sound_places.proofs.Passes.{rest-all, editions-none, editions-free, editions-low, editions-late, editions-out, editions-past}
 use Rattle.sound_places.proofs.editions_sound.Goals as goal
 
 pub loop-i-init : goal.loop-i-init
 loop-i-init c = refl
 
 pub returns-then-e-eq0 : goal.returns-then-e-eq0
-returns-then-e-eq0 c = let n : length c.args.l ≡ 32 = search rules in
-    c.editions_blank.ensures
-    ∙ editions-free c.args.l c.loop-i.low
+returns-then-e-eq0 c = let n : length c.args.l.now ≡ 32 = search rules in
+    c.all_blank.ensures ∙ ap (all blank_edition) (rest-all c.args.l.now 32 c.loop-i.i n)
+    ∙ editions-free c.args.l.now c.loop-i.low
     c.loop-i.past c.loop-i.i (omega arith)
     (ap not (eq-eqb _ _ c.if-e-eq0.true))
     ∙ c.loop-i.invariant
 
 pub returns-then-e-low : goal.returns-then-e-low
-returns-then-e-low c = let n : length c.args.l ≡ 32 = search rules in
-    editions-low c.args.l c.loop-i.low
+returns-then-e-low c = let n : length c.args.l.now ≡ 32 = search rules in
+    editions-low c.args.l.now c.loop-i.low
     c.loop-i.past c.loop-i.i (omega arith)
     (ap not (ne_eqb _ _ c.if-e-eq0.false)) c.if-e-low.true
     ∙ c.loop-i.invariant
 
 pub returns-then-e-past : goal.returns-then-e-past
-returns-then-e-past c = let n : length c.args.l ≡ 32 = search rules in
-    editions-late c.args.l
+returns-then-e-past c = let n : length c.args.l.now ≡ 32 = search rules in
+    editions-late c.args.l.now
     c.loop-i.low
     c.loop-i.past
     c.loop-i.i (omega arith)
@@ -36,8 +38,8 @@ returns-then-e-past c = let n : length c.args.l ≡ 32 = search rules in
     ∙ c.loop-i.invariant
 
 pub returns-then-not-edition_in_range : goal.returns-then-not-edition_in_range
-returns-then-not-edition_in_range c = let n : length c.args.l ≡ 32 = search rules in
-    editions-out c.args.l
+returns-then-not-edition_in_range c = let n : length c.args.l.now ≡ 32 = search rules in
+    editions-out c.args.l.now
     c.loop-i.low
     c.loop-i.past
     c.loop-i.i (omega arith)
@@ -46,8 +48,8 @@ returns-then-not-edition_in_range c = let n : length c.args.l ≡ 32 = search ru
     ∙ c.loop-i.invariant
 
 pub loop-i-preserved : goal.loop-i-preserved
-loop-i-preserved c = let n : length c.args.l ≡ 32 = search rules in
-    editions-past c.args.l
+loop-i-preserved c = let n : length c.args.l.now ≡ 32 = search rules in
+    editions-past c.args.l.now
     c.loop-i.low
     c.loop-i.past
     c.loop-i.i (omega arith)
@@ -57,5 +59,5 @@ loop-i-preserved c = let n : length c.args.l ≡ 32 = search rules in
     ∙ c.loop-i.invariant
 
 pub returns : goal.returns
-returns c = let n : length c.args.l ≡ 32 = search rules in
-    editions-none c.args.l c.loop-i.low c.loop-i.past c.loop-i.i (omega arith) ∙ c.loop-i.invariant
+returns c = let n : length c.args.l.now ≡ 32 = search rules in
+    editions-none c.args.l.now c.loop-i.low c.loop-i.past c.loop-i.i (omega arith) ∙ c.loop-i.invariant

@@ -1,5 +1,4 @@
 use mathlib.Core.Path.{◌≡◌}
-use Prim.Native.Nat.{◌-◌}
 use lib.ListN.{drop}
 use Rattle.rules.specs.Base.{all}
 use Rattle.sound_places.specs.Checked.{numbers_sound}
@@ -7,6 +6,3 @@ use Rattle.sound_places.proofs.generations_sound.Given as goal
 
 abbrev pub invariant-loop-i : goal.invariant-loop-i
 invariant-loop-i l = all numbers_sound (drop l.i l.l) ≡ all numbers_sound l.l
-
-abbrev pub decreases-loop-i : goal.decreases-loop-i
-decreases-loop-i l = 8 - l.i

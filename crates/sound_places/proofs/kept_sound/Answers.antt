@@ -8,17 +8,17 @@ use Rattle.sound_places.proofs.kept_sound.Goals as goal
 
 pub returns-then-not-editions_sound : goal.returns-then-not-editions_sound
 unfolding kept_sound editions_sound editions_from
-returns-then-not-editions_sound c = let v = c.args.v in first-fails (editions_sound v) (generations_sound v) (leb v.reached v.last)
+returns-then-not-editions_sound c = let v = c.args.v.now in first-fails (editions_sound v) (generations_sound v) (leb v.reached v.last)
     (sym c.editions_sound.ensures ∙ c.if-not-editions_sound.true)
 
 pub returns-then-not-generations_sound : goal.returns-then-not-generations_sound
 unfolding kept_sound generations_sound numbers_sound numbers_from
-returns-then-not-generations_sound c = let v = c.args.v in second-fails (editions_sound v) (generations_sound v)
+returns-then-not-generations_sound c = let v = c.args.v.now in second-fails (editions_sound v) (generations_sound v)
     (leb v.reached v.last) (sym c.generations_sound.ensures ∙ c.if-not-generations_sound.true)
 
 pub returns : goal.returns
 unfolding kept_sound editions_sound editions_from generations_sound numbers_sound numbers_from
-returns c = let v = c.args.v in last-decides (editions_sound v) (generations_sound v)
+returns c = let v = c.args.v.now in last-decides (editions_sound v) (generations_sound v)
     (leb v.reached v.last)
     (sym c.editions_sound.ensures ∙ c.if-not-editions_sound.false)
     (sym c.generations_sound.ensures ∙ c.if-not-generations_sound.false)

@@ -10,17 +10,17 @@ pub loop-i-init : goal.loop-i-init
 loop-i-init c = refl
 
 pub returns-then-not-is_unfallen : goal.returns-then-not-is_unfallen
-returns-then-not-is_unfallen c = let n : length c.args.l ≡ 20 = search rules in
-    numbers-fall c.args.l c.loop-i.low c.loop-i.i
+returns-then-not-is_unfallen c = let n : length c.args.l.now ≡ 20 = search rules in
+    numbers-fall c.args.l.now c.loop-i.low c.loop-i.i
     (omega arith) (sym c.is_unfallen.ensures ∙ c.if-not-is_unfallen.true)
     ∙ c.loop-i.invariant
 
 pub loop-i-preserved : goal.loop-i-preserved
-loop-i-preserved c = let n : length c.args.l ≡ 20 = search rules in
-    numbers-past c.args.l c.loop-i.low c.loop-i.i
+loop-i-preserved c = let n : length c.args.l.now ≡ 20 = search rules in
+    numbers-past c.args.l.now c.loop-i.low c.loop-i.i
     (omega arith) (sym c.is_unfallen.ensures ∙ c.if-not-is_unfallen.false)
     ∙ c.loop-i.invariant
 
 pub returns : goal.returns
-returns c = let n : length c.args.l ≡ 20 = search rules in
-    numbers-none c.args.l c.loop-i.low c.loop-i.i (omega arith) ∙ c.loop-i.invariant
+returns c = let n : length c.args.l.now ≡ 20 = search rules in
+    numbers-none c.args.l.now c.loop-i.low c.loop-i.i (omega arith) ∙ c.loop-i.invariant

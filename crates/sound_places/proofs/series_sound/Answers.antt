@@ -12,15 +12,15 @@ pub loop-i-init : goal.loop-i-init
 loop-i-init c = refl
 
 pub returns-then-not-listed_in_range : goal.returns-then-not-listed_in_range
-returns-then-not-listed_in_range c = let n : length c.args.l ≡ 8 = search rules in
-    rest-stop listed_in_range not_listed c.args.l c.loop-i.i (omega arith)
+returns-then-not-listed_in_range c = let n : length c.args.l.now ≡ 8 = search rules in
+    rest-stop listed_in_range not_listed c.args.l.now c.loop-i.i (omega arith)
     (sym c.listed_in_range.ensures ∙ c.if-not-listed_in_range.true) ∙ c.loop-i.invariant
 
 pub loop-i-preserved : goal.loop-i-preserved
-loop-i-preserved c = let n : length c.args.l ≡ 8 = search rules in
-    rest-past listed_in_range not_listed c.args.l c.loop-i.i (omega arith)
+loop-i-preserved c = let n : length c.args.l.now ≡ 8 = search rules in
+    rest-past listed_in_range not_listed c.args.l.now c.loop-i.i (omega arith)
     (sym c.listed_in_range.ensures ∙ c.if-not-listed_in_range.false) ∙ c.loop-i.invariant
 
 pub returns : goal.returns
-returns c = let n : length c.args.l ≡ 8 = search rules in
-    rest-none listed_in_range not_listed c.args.l c.loop-i.i (omega arith) ∙ c.loop-i.invariant
+returns c = let n : length c.args.l.now ≡ 8 = search rules in
+    rest-none listed_in_range not_listed c.args.l.now c.loop-i.i (omega arith) ∙ c.loop-i.invariant

@@ -1,5 +1,4 @@
 use mathlib.Core.Path.{◌≡◌}
-use Prim.Native.Nat.{◌-◌}
 use lib.ListN.{drop}
 use Rattle.rules.specs.Base.{all}
 use Rattle.rules.specs.Sound.{listed_in_range}
@@ -7,6 +6,3 @@ use Rattle.sound_places.proofs.series_sound.Given as goal
 
 abbrev pub invariant-loop-i : goal.invariant-loop-i
 invariant-loop-i l = all listed_in_range (drop l.i l.l) ≡ all listed_in_range l.l
-
-abbrev pub decreases-loop-i : goal.decreases-loop-i
-decreases-loop-i l = 8 - l.i
