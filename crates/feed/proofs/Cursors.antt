@@ -1,19 +1,22 @@
 -- What stands on a line from a position on, from what the code has found of its bytes.
+use Rattle.std.specs.Prelude.{Some, None, nat_eq}
+use Rattle.std.specs.Cmp.Lexicographic.{pointwise}
 use mathlib.Core.Path.{◌≡◌, refl, sym, ap, ap₂, ◌∙◌}
-use mathlib.Core.Bool.{Bool, true, false}
+use mathlib.Core.Bool.{Bool, true, false, ◌&&◌}
 use mathlib.Core.List.{List, [], ◌∷◌}
 use Prim.Native.Nat.{ℕ, zero, suc, ◌+◌, ◌-◌, ◌<◌, ◌≤◌}
 use native.Mathlib.Omega.{arith}
 use lib.Dec.{leb, ltb, eqb}
-use lib.ListN.{length, get_or, take, drop, length-drop}
-use lib.Seq.{drop-drop, drop-cons}
+use lib.ListN.{length, take, drop, length-drop}
+use lib.Seq.{drop-drop}
 use borrow.Author.Tests.{eqb-true, eqb-false, eq-eqb, ne_eqb, leb-true, leb-false, le-leb, lt-leb, lt-ltb, le-ltb, ltb-true, ltb-false, not-true}
 use Rattle.rules.specs.Bytes.{u16_at, u32_at, length_field}
 use Rattle.rules.specs.Refusals.{torn}
 use Rattle.rules.proofs.RefusalsLaws.{whole}
-use Rattle.rules.proofs.Tests.{or-false-l, or-false-r, and-false}
+use Rattle.rules.proofs.Tests.{or-false-l, or-false-r}
 use Rattle.wire.proofs.Numbers.{u16-here, u32-here}
-use Rattle.reader.specs.Head.{head_of, head_at, head_length}
+use Rattle.reader.specs.declared.Head.TheVariants.{Message}
+use Rattle.reader.specs.Head.{head_of, head_at}
 use Rattle.reader.proofs.Heads.{head-end, head-torn, head-message}
 use Rattle.feed.specs.Feed.{number_of, message_in, behind, faulty, faultless, faultless_from, same}
 use Rattle.feed.specs.Cursors.{part_length, ready, stop_of, part_of, advance_of}
@@ -96,47 +99,69 @@ module _ (l : List ℕ) (at : ℕ) where
 
 -- 21's test of a part -------------------------------------------------------------------------
 
-part-faulty : (last : ℕ) (bs : List ℕ) → faulty last bs ≡ true → 0 ≡ part_length last bs
+part-faulty : (last : ℕ) (bs : List ℕ) → faulty last bs ≡ true → None ≡ part_length last bs
 unfolding part_length
 part-faulty last bs e = rw e
 
-part-fine : (last : ℕ) (bs : List ℕ) → faulty last bs ≡ false → length_field (drop 4 bs) ≡ part_length last bs
+part-fine : (last : ℕ) (bs : List ℕ) → faulty last bs ≡ false → Some (length_field (drop 4 bs)) ≡ part_length last bs
 unfolding part_length
 part-fine last bs e = rw e
 
-pub part_low : (last : ℕ) (bs : List ℕ) → number_of bs ≤ last → 0 ≡ part_length last bs
+pub part_low : (last : ℕ) (bs : List ℕ) → number_of bs ≤ last → None ≡ part_length last bs
 part_low last bs h = part-faulty last bs (unfold faulty in (rw (le-leb (number_of bs) last h) refl))
 
-pub part-head : (l : List ℕ) (at last : ℕ) → last < number_of (drop at l) → head_length (head_at l (at + 4)) ≡ part_length last (drop at l)
-part-head l at last h = ap (λ (x : List ℕ). head_length (head_of x)) (sym (drop-drop 4 at l)) ∙ go (torn ts) refl (eqb (length ts) 0) refl
-  where
-    ts : List ℕ
-    ts = drop 4 (drop at l)
+-- what stands behind a number above the last
+module _ (l : List ℕ) (at last : ℕ) (h : last < number_of (drop at l)) where
+  abbrev ts : List ℕ
+  ts = drop 4 (drop at l)
 
-    go : (t : Bool) → torn ts ≡ t → (z : Bool) → eqb (length ts) 0 ≡ z → head_length (head_of ts) ≡ part_length last (drop at l)
-    go true e true f = ap head_length (head-end ts (eqb-true (length ts) 0 f)) ∙ part-faulty last (drop at l) (unfold faulty in (rw (lt-leb (number_of (drop at l)) last h) e))
-    go true e false f = ap head_length (head-torn ts (let y = eqb-false (length ts) 0 f in omega arith) e) ∙ part-faulty last (drop at l)
-        (unfold faulty in (rw (lt-leb (number_of (drop at l)) last h) e))
-    go false e z f =
-        let w = whole ts e in
-        let a = w.0 in
-        let b = w.1 in
-        ap head_length (head-message ts (omega arith) e) ∙ part-fine last (drop at l) (fine-in last (drop at l) h e)
+  here : head_at l (at + 4) ≡ head_of ts
+  here = ap head_of (sym (drop-drop 4 at l))
+
+  faulty-as : (t : Bool) → torn ts ≡ t → faulty last (drop at l) ≡ t
+  unfolding faulty
+  faulty-as t e = rw (lt-leb (number_of (drop at l)) last h) e
+
+  pub part-head : (n : ℕ) → head_at l (at + 4) ≡ Message n → Some n ≡ part_length last (drop at l)
+  part-head n m = go (torn ts) refl (eqb (length ts) 0) refl
+    where
+      go : (t : Bool) → torn ts ≡ t → (z : Bool) → eqb (length ts) 0 ≡ z → Some n ≡ part_length last (drop at l)
+      go t e true f = let q = here in let r = head-end ts (eqb-true (length ts) 0 f) in let z : ◌≡◌ {A = ℕ} 0 1 = cc in absurd (omega arith)
+      go true e false f = let q = here in let r = head-torn ts (let y = eqb-false (length ts) 0 f in omega arith) e in let z : ◌≡◌ {A = ℕ} 0 1 = cc in absurd (omega arith)
+      go false e z f =
+          let w = whole ts e in
+          let a = w.0 in
+          let b = w.1 in
+          let q = here in
+          let r = head-message ts (omega arith) e in
+          let k : n ≡ length_field ts = cc in
+          ap Some k ∙ part-fine last (drop at l) (faulty-as false e)
+
+  pub part-not : ((n : ℕ) → head_at l (at + 4) ≡ Message n → ⊥) → None ≡ part_length last (drop at l)
+  part-not m = go (torn ts) refl
+    where
+      go : (t : Bool) → torn ts ≡ t → None ≡ part_length last (drop at l)
+      go true e = part-faulty last (drop at l) (faulty-as true e)
+      go false e =
+          let w = whole ts e in
+          let a = w.0 in
+          let b = w.1 in
+          absurd (m _ (here ∙ head-message ts (omega arith) e))
 
 -- its answer tells which
-pub part-zero : (last : ℕ) (bs : List ℕ) (n : ℕ) → n ≡ part_length last bs → n ≡ 0 → faulty last bs ≡ true
-part-zero last bs n e z = go (faulty last bs) refl
+pub part-none : (last : ℕ) (bs : List ℕ) → None ≡ part_length last bs → faulty last bs ≡ true
+part-none last bs e = go (faulty last bs) refl
   where
     go : (t : Bool) → faulty last bs ≡ t → faulty last bs ≡ true
     go true f = f
-    go false f = let k = part-fine last bs f in let w = (fine-length last bs f).0 in absurd (omega arith)
+    go false f = let k = part-fine last bs f in let z : ◌≡◌ {A = ℕ} 0 1 = cc in absurd (omega arith)
 
-pub part-some : (last : ℕ) (bs : List ℕ) (n : ℕ) → n ≡ part_length last bs → (n ≡ 0 → ⊥) → (faulty last bs ≡ false) × (n ≡ length_field (drop 4 bs))
-part-some last bs n e z = go (faulty last bs) refl
+pub part-some : (last : ℕ) (bs : List ℕ) (n : ℕ) → Some n ≡ part_length last bs → (faulty last bs ≡ false) × (n ≡ length_field (drop 4 bs))
+part-some last bs n e = go (faulty last bs) refl
   where
     go : (t : Bool) → faulty last bs ≡ t → (faulty last bs ≡ false) × (n ≡ length_field (drop 4 bs))
-    go true f = absurd (z (e ∙ sym (part-faulty last bs f)))
-    go false f = (f, e ∙ sym (part-fine last bs f))
+    go true f = let k = part-faulty last bs f in let z : ◌≡◌ {A = ℕ} 0 1 = cc in absurd (omega arith)
+    go false f = let k = part-fine last bs f in (f, cc)
 
 -- A line, part by part ------------------------------------------------------------------------
 
@@ -159,27 +184,13 @@ behind-here l at n e = rw (sym e) (drop-drop (4 + n) at l)
 
 -- Bytes compared ------------------------------------------------------------------------------
 
-pub same-lengths : (a b : List ℕ) → (length a ≡ length b → ⊥) → same a b ≡ false
+-- what `==` of two slices of bytes answers
+pub same-pointwise : (a b : List ℕ) → pointwise nat_eq a b ≡ same a b
 unfolding same
-same-lengths [] [] h = absurd (h refl)
-same-lengths [] (y ∷ b) h = refl
-same-lengths (x ∷ a) [] h = refl
-same-lengths (x ∷ a) (y ∷ b) h = rw (same-lengths a b (λ e. h (ap suc e))) (and-false (eqb x y))
-
-module _ (a b : List ℕ) (i : ℕ) (ha : i < length a) (hb : i < length b) where
-  pub same-on : get_or a i 0 ≡ get_or b i 0 → same (drop i a) (drop i b) ≡ same (drop (suc i) a) (drop (suc i) b)
-  unfolding same
-  same-on e = rw (drop-cons a i 0 ha, drop-cons b i 0 hb, eq-eqb (get_or a i 0) (get_or b i 0) e)
-
-  pub same_not : (get_or a i 0 ≡ get_or b i 0 → ⊥) → same (drop i a) (drop i b) ≡ false
-  unfolding same
-  same_not e = rw (drop-cons a i 0 ha, drop-cons b i 0 hb, ne_eqb (get_or a i 0) (get_or b i 0) e)
-
-pub same_end : (a b : List ℕ) → length a ≡ 0 → length b ≡ 0 → same a b ≡ true
-unfolding same
-same_end [] [] e f = refl
-same_end [] (y ∷ b) e f = absurd (omega arith)
-same_end (x ∷ a) b e f = absurd (omega arith)
+same-pointwise [] [] = refl
+same-pointwise [] (y ∷ b) = refl
+same-pointwise (x ∷ a) [] = refl
+same-pointwise (x ∷ a) (y ∷ b) = ap (λ (t : Bool). eqb x y && t) (same-pointwise a b)
 
 -- What comes up -------------------------------------------------------------------------------
 

@@ -1,11 +1,13 @@
 -- The lines as the code has them: what is left of each from a position on, all numbers there being above the last one handed out.
-use Rattle.std.specs.Prelude.{Bool, not, ◌||◌, List, ℕ, ◌+◌, eqb, length, drop, if◌then◌else◌}
+use Rattle.std.specs.Prelude.{Bool, not, ◌||◌, List, ℕ, ◌+◌, eqb, length, drop, if◌then◌else◌, Option, Some, None}
 use Rattle.rules.specs.Bytes.{length_field}
+use Rattle.feed.specs.declared.Stop.{Stop}
+use Rattle.feed.specs.declared.Stop.TheVariants.{Differ, Lost}
 use Rattle.feed.specs.Feed.{number_of, message_in, faulty, same, Next, message, stop}
 
--- the length of the message in front; 0 where that is faulty
-unfoldable pub part_length : (last : ℕ) → List ℕ → ℕ
-part_length last bs = if faulty last bs then 0 else length_field (drop 4 bs)
+-- the length of the message in front; none where that is faulty
+unfoldable pub part_length : (last : ℕ) → List ℕ → Option ℕ
+part_length last bs = if faulty last bs then None else Some (length_field (drop 4 bs))
 
 -- a line is at its end, or what stands in front is not faulty
 unfoldable pub ready : (last : ℕ) → List ℕ → Bool
@@ -17,6 +19,11 @@ stop_of n m s =
     if eqb (number_of m) n
     then if eqb (number_of s) n then if same (message_in m) (message_in s) then 0 else 19 else 0
     else if eqb (number_of s) n then 0 else 20
+
+-- the number of a call that the handing out stops: 19 where the lines differ, 20 where a message was lost
+abbrev pub stop_number : Stop → ℕ
+stop_number Differ = 19
+stop_number Lost = 20
 
 -- "whichever line's memory has it, main first"
 unfoldable pub part_of : (number : ℕ) → (main spare : List ℕ) → List ℕ

@@ -2,11 +2,13 @@
 // and no message is copied. Each line is passed once by the test and once by the handing out, and a message that both have is compared once.
 #![tactic(auto)]
 
-ghost use Rattle.std.specs.Prelude.{◌≡◌, ◌&&◌, leb, ℕ, suc, ◌+◌, ◌≤◌, ◌<◌, length, drop};
+ghost use Rattle.std.specs.Prelude.{◌≡◌, ◌&&◌, leb, ℕ, suc, ◌+◌, ◌≤◌, ◌<◌, length, drop, MatchResult};
 ghost use Rattle.rules.specs.Bytes.{u16_at};
 ghost use Rattle.feed.specs.Feed.{number_of, message_in, faultless, same};
-ghost use Rattle.feed.specs.Cursors.{part_length, stop_of, part_of, advance_of};
+ghost use Rattle.feed.specs.Cursors.{part_length, stop_of, stop_number, part_of, advance_of};
 ghost use Rattle.feed.specs.Requirements.{LineReady, LinesReady, LinesLeft};
+
+use reader::Head;
 
 // The number at a position; 0 where its four bytes are not there.
 fn number_at(line: &[u8], at: usize) -> u32
@@ -21,16 +23,18 @@ fn number_at(line: &[u8], at: usize) -> u32
     wire::u32_at(line, at)
 }
 
-// The length of the message behind the number at a position; 0 where it is torn or the number is not above `last`.
-fn part_length(line: &[u8], at: usize, last: u32) -> u16
+// The length of the message behind the number at a position; none where it is torn or the number is not above `last`.
+fn part_length(line: &[u8], at: usize, last: u32) -> Option<u16>
     ensures { result ≡ part_length last (drop at line.now) }
 {
     let number = number_at(line, at);
     if number <= last {
-        return 0;
+        return None;
     }
-    let head = reader::message_head(line, at + 4);
-    reader::head_length(head)
+    match reader::message_head(line, at + 4) {
+        Head::Message(length) => Some(length),
+        _ => None,
+    }
 }
 
 // 21's test of a whole line.
@@ -40,29 +44,11 @@ pub fn is_faultless(line: &[u8]) -> bool
     let mut last = 0u32;
     let mut at = 0usize;
     while at < line.len() {
-        let length = part_length(line, at, last);
-        if length == 0 {
+        let Some(length) = part_length(line, at, last) else {
             return false;
-        }
+        };
         last = number_at(line, at);
         at += 4 + length as usize;
-    }
-    true
-}
-
-// Two slices have the same bytes.
-fn same_bytes(a: &[u8], b: &[u8]) -> bool
-    ensures { result ≡ same a.now b.now }
-{
-    if a.len() != b.len() {
-        return false;
-    }
-    let mut i = 0usize;
-    while i < a.len() {
-        if a[i] != b[i] {
-            return false;
-        }
-        i += 1;
     }
     true
 }
@@ -85,7 +71,7 @@ fn same_messages(main: &[u8], at: usize, spare: &[u8], other: usize) -> bool
 {
     let a = message_at(main, at);
     let b = message_at(spare, other);
-    same_bytes(a, b)
+    a == b
 }
 
 // Both lines are at their ends.
@@ -98,40 +84,45 @@ pub fn at_ends(main: &[u8], at: usize, spare: &[u8], other: usize) -> bool
     false
 }
 
-// The number that comes up, and what stops it: 19, 20, or 0 where its message is handed out.
-#[derive(Clone, Copy)]
-pub struct Up {
-    pub number: u32,
-    pub stopped: u8,
+// What stops the handing out at the number that comes up: both lines have it but their bytes differ, or neither has it though a later one stands.
+#[derive(Clone, Copy, PartialEq, Eq)]
+pub enum Stop {
+    Differ,
+    Lost,
 }
 
-// What comes up after `done`, with the lines at these positions and not both at their ends.
-pub fn up_next(main: &[u8], at: usize, spare: &[u8], other: usize, done: u32) -> Up
+// What stops the handing out, as the number of the call.
+pub fn stop_number(stop: Stop) -> u8
+    ensures { result ≡ stop_number stop }
+{
+    match stop {
+        Stop::Differ => 19,
+        Stop::Lost => 20,
+    }
+}
+
+// The number that comes up after `done` if its message is handed out, or what stops it. The lines are at these positions and not both at their ends.
+pub fn up_next(main: &[u8], at: usize, spare: &[u8], other: usize, done: u32) -> Result<u32, Stop>
     requires { LinesLeft main.now spare.now at other done }
-    ensures { (result.number ≡ suc done) × (result.stopped ≡ stop_of (suc done) (drop at main.now) (drop other spare.now)) × (suc done < 4294967296) }
+    ensures comes { MatchResult result (λ number. (number ≡ suc done) × (stop_of (suc done) (drop at main.now) (drop other spare.now) ≡ 0)) (λ stop. stop_number stop ≡ stop_of (suc done) (drop at main.now) (drop other spare.now)) }
+    ensures few { suc done < 4294967296 }
 {
     let here = number_at(main, at);
     let there = number_at(spare, other);
     let number = done + 1;
     if here != number {
         if there != number {
-            return Up {
-                number,
-                stopped: 20,
-            };
+            return Err(Stop::Lost);
         }
-        return Up { number, stopped: 0 };
+        return Ok(number);
     }
     if there != number {
-        return Up { number, stopped: 0 };
+        return Ok(number);
     }
     if same_messages(main, at, spare, other) {
-        return Up { number, stopped: 0 };
+        return Ok(number);
     }
-    Up {
-        number,
-        stopped: 19,
-    }
+    Err(Stop::Differ)
 }
 
 // The message of the number that comes up, as a part of whichever line's memory has it, main first.

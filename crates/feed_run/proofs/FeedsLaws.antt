@@ -23,7 +23,9 @@ use Rattle.answers.specs.declared.Stepped.{Stepped}
 use Rattle.messages.specs.Tries.{Tries}
 use Rattle.feed.specs.Feed.{Part, parts_of, faultless, next, message, stop, feed}
 use Rattle.feed.specs.Requirements.{LineReady, LinesReady}
-use Rattle.feed.specs.Cursors.{ready, stop_of, part_of, up_next, advance_of}
+use Rattle.feed.specs.declared.Stop.{Stop}
+use Rattle.feed.specs.declared.Stop.TheVariants.{Differ, Lost}
+use Rattle.feed.specs.Cursors.{ready, stop_of, stop_number, part_of, up_next, advance_of}
 use Rattle.feed.specs.Turns.{hands, fed_from}
 use Rattle.feed.proofs.FeedRuns.{hands-full, hands_more, fed-on, fed-stop, feed-is, feed-not}
 use Rattle.feed.proofs.Ahead.{Ahead, ahead-start, ahead-moved, ahead-ready, advance-within, some-move, next_up, next-end, next-whole, up-message, up-stop}
@@ -56,6 +58,11 @@ asked n d k i j m s e a b f z =
     let x = asked-one n d i m e a in
     let y = asked-one n d j s e b in
     record { numbered = x.numbered; main = x.stands; spare = y.stands; goes = ap (λ (h : ℕ). stop_of h (drop i m) (drop j s)) e ∙ sym f ∙ z }
+
+-- what stops it has a number
+pub stop-some : (s : Stop) → stop_number s ≡ 0 → ⊥
+stop-some Differ e = absurd (omega arith)
+stop-some Lost e = absurd (omega arith)
 
 -- A turn --------------------------------------------------------------------------------------
 

@@ -49,12 +49,10 @@ fn hand_out<'a>(
     let at = t.main;
     let other = t.spare;
     let from = t.written;
-    let up = feed::up_next(main, at, spare, other, t.done);
-    let number = up.number;
-    let stopped = up.stopped;
-    if stopped != 0 {
-        return stop_at(t, stopped);
-    }
+    let number = match feed::up_next(main, at, spare, other, t.done) {
+        Ok(number) => number,
+        Err(stop) => return stop_at(t, feed::stop_number(stop)),
+    };
     let part = feed::next_part(main, at, spare, other, number);
     let r = messages::try_step(numbers, number, part, &mut report[from..]);
     let written = r.written;

@@ -11,8 +11,8 @@ use lib.Seq.{drop-drop}
 use borrow.Author.Tests.{ne_eqb, eqb-true, eqb-false, leb-true, leb-false, ltb-true, ltb-false}
 use Rattle.rules.specs.Bytes.{u8_at, u16_at, u32_at, as_signed, as_unsigned, length_field, kind_field, bytes, u16, u32, i32}
 use Rattle.rules.specs.Records.{Report, encode, encode_all, sheet, record_of, records_from, records, TwoBytes, FourBytes, FourSigned, Fits, ForAll}
-use Rattle.records.specs.declared.Next.{Next}
-use Rattle.records.specs.declared.Next.TheVariants.{Found, End}
+use Rattle.std.specs.Prelude.{Option, Some, None}
+use Rattle.records.specs.declared.Found.{Found}
 use Rattle.records.specs.Next.{next_record, records_at}
 use Rattle.records.specs.Seen.{Seen, seen, pasted, ◌plus◌}
 use Rattle.wire.proofs.Numbers.{u16-past, u16-drop, u16-here, u32-here}
@@ -53,11 +53,11 @@ encode_all-append (r ∷ a) b = ap (λ (x : List ℕ). encode r ++ x) (encode_al
 -- Record by record ----------------------------------------------------------------------------
 
 module _ (m : List ℕ) (at : ℕ) where
-  pub next-none : u16_at m at ≡ 0 → next_record m at ≡ End
+  pub next-none : u16_at m at ≡ 0 → next_record m at ≡ None
   unfolding next_record
   next-none e = rw e
 
-  pub next-found : (end : ℕ) → (u16_at m at ≡ 0 → ⊥) → end ≡ min (at + u16_at m at) (length m) → next_record m at ≡ Found (u16_at m (at + 2)) end
+  pub next-found : (end : ℕ) → (u16_at m at ≡ 0 → ⊥) → end ≡ min (at + u16_at m at) (length m) → next_record m at ≡ Some (record { kind = u16_at m (at + 2); end = end })
   unfolding next_record
   next-found end n e = rw (ne_eqb (u16_at m at) 0 n, e)
 
@@ -78,12 +78,12 @@ module _ (m : List ℕ) (at : ℕ) where
       rw (front_length, ne_eqb (u16_at m at) 0 n, records_from, front_length)
       (ap (λ (l : List ℕ). record_of (drop at m) ∷ records_from fuel l) (drop-drop (u16_at m at) at m))
 
--- what `Found kind end` says of the record at a position and of those after it
-pub record Follows (m : List ℕ) (at kind end : ℕ) : Type 0 where
-  pub kind-is : kind_field (drop at m) ≡ kind
-  pub further : at < end
-  pub inside : end ≤ length m
-  pub rest-is : (fuel : ℕ) → records_from (suc fuel) (drop at m) ≡ record_of (drop at m) ∷ records_from fuel (drop end m)
+-- what `Some r` says of the record at a position and of those after it
+pub record Follows (m : List ℕ) (at : ℕ) (r : Found) : Type 0 where
+  pub kind-is : kind_field (drop at m) ≡ r.kind
+  pub further : at < r.end
+  pub inside : r.end ≤ length m
+  pub rest-is : (fuel : ℕ) → records_from (suc fuel) (drop at m) ≡ record_of (drop at m) ∷ records_from fuel (drop r.end m)
 
 module _ (m : List ℕ) (at : ℕ) where
   drop-end : (n : ℕ) → drop n m ≡ drop (min n (length m)) m
@@ -103,7 +103,7 @@ module _ (m : List ℕ) (at : ℕ) where
       go true b = ltb-true _ _ b
       go false b = absurd (n (u16-past m at (ltb-false _ _ b)))
 
-  end_is : (end : ℕ) → (u16_at m at ≡ 0 → ⊥) → end ≡ min (at + u16_at m at) (length m) → Follows m at (u16_at m (at + 2)) end
+  end_is : (end : ℕ) → (u16_at m at ≡ 0 → ⊥) → end ≡ min (at + u16_at m at) (length m) → Follows m at (record { kind = u16_at m (at + 2); end = end })
   unfolding kind_field
   end_is end n e = record {
     kind-is = u16-drop at m 2;
@@ -112,19 +112,18 @@ module _ (m : List ℕ) (at : ℕ) where
     rest-is = λ fuel. after-at m at n fuel ∙ ap (λ (l : List ℕ). record_of (drop at m) ∷ records_from fuel l) (drop-end (at + u16_at m at) ∙ ap (λ (k : ℕ). drop k m) (sym e));
   }
 
-  pub next-follows : (kind end : ℕ) → next_record m at ≡ Found kind end → Follows m at kind end
-  next-follows kind end e = go (eqb (u16_at m at) 0) refl
+  pub next-follows : (r : Found) → next_record m at ≡ Some r → Follows m at r
+  next-follows r e = go (eqb (u16_at m at) 0) refl
     where
-      go : (t : Bool) → eqb (u16_at m at) 0 ≡ t → Follows m at kind end
+      go : (t : Bool) → eqb (u16_at m at) 0 ≡ t → Follows m at r
       go true b = let z : ◌≡◌ {A = ℕ} 0 1 = (let q = next-none m at (eqb-true _ _ b) in cc) in absurd (omega arith)
       go false b =
           let n = eqb-false (u16_at m at) 0 b in
-          let q : next_record m at ≡ Found (u16_at m (at + 2)) (min (at + u16_at m at) (length m)) = next-found m at _ n refl in
-          let k : u16_at m (at + 2) ≡ kind = cc in
-          let f : end ≡ min (at + u16_at m at) (length m) = cc in
-          subst (λ (x : ℕ). Follows m at x end) k (end_is end n f)
+          let q = next-found m at _ n refl in
+          let k : record { kind = u16_at m (at + 2); end = min (at + u16_at m at) (length m) } ≡ r = cc in
+          subst (λ (x : Found). Follows m at x) k (end_is _ n refl)
 
-  pub next-ends : next_record m at ≡ End → (fuel : ℕ) → records_from fuel (drop at m) ≡ []
+  pub next-ends : next_record m at ≡ None → (fuel : ℕ) → records_from fuel (drop at m) ≡ []
   next-ends e = go (eqb (u16_at m at) 0) refl
     where
       go : (t : Bool) → eqb (u16_at m at) 0 ≡ t → (fuel : ℕ) → records_from fuel (drop at m) ≡ []
@@ -137,11 +136,11 @@ unfolding records_at records_from
 walked zero m at = refl
 walked (suc fuel) m at = go (next_record m at) refl (λ end. walked fuel m end)
   where
-    go : (x : Next) → next_record m at ≡ x → ((end : ℕ) → records_at fuel m end ≡ records_from fuel (drop end m)) →
+    go : (x : Option Found) → next_record m at ≡ x → ((end : ℕ) → records_at fuel m end ≡ records_from fuel (drop end m)) →
         records_at (suc fuel) m at ≡ records_from (suc fuel) (drop at m)
-    go (Found kind end) e rest =
-        rw (e, records_at) (ap (λ (l : List Report). record_of (drop at m) ∷ l) (rest end) ∙ sym ((next-follows m at kind end e).rest-is fuel))
-    go End e rest = rw (e, records_at) (sym (next-ends m at e (suc fuel)))
+    go (Some r) e rest =
+        rw (e, records_at) (ap (λ (l : List Report). record_of (drop at m) ∷ l) (rest r.end) ∙ sym ((next-follows m at r e).rest-is fuel))
+    go None e rest = rw (e, records_at) (sym (next-ends m at e (suc fuel)))
 
 pub walks-back : (room : ℕ) (rs : List Report) → ForAll Fits rs → length (encode_all rs) ≤ room → records_at room (sheet room rs) 0 ≡ rs
 unfolding records

@@ -6,8 +6,8 @@ use Prim.Native.Nat.{ℕ, suc, ◌+◌, ◌-◌, ◌*◌, ◌≤◌, ◌<◌}
 use native.Mathlib.Omega.{arith}
 use native.Mathlib.Numerals.{add-one}
 use lib.Dec.{leb}
-use lib.ListN.{length, get_or, take, drop, replicate, length-append, length-drop, length-replicate, drop_of_length-le, take-append-drop}
-use lib.Seq.{paste, take-suc, take-length, take_all, length-take-le, take-take, take_at, drop_at, drop-drop, take-append-add, drop-append-add}
+use lib.ListN.{length, get_or, take, drop, replicate, length-append, length-drop, drop_of_length-le, take-append-drop}
+use lib.Seq.{take-suc, take_all, length-take-le, take-take, take_at, drop_at, drop-drop, take-append-add, drop-append-add}
 use borrow.Author.Tests.{le-leb, lt-leb, leb-true, leb-false}
 use borrow.Rule.Slice.PartMut.{put_mid}
 use Rattle.rules.specs.Bytes.{u32, framed, bytes}
@@ -25,12 +25,6 @@ plus-in l bs at h = rw (le-leb _ _ h)
 pub plus-out : (l bs : List ℕ) (at : ℕ) → length l < at + length bs → seen l at plus bs ≡ seen l (suc (length l))
 unfolding seen ◌plus◌
 plus-out l bs at h = rw (lt-leb _ _ h)
-
--- what a loop that copies all of bs leaves
-pub plus-copied : (l bs : List ℕ) (at : ℕ) → at + length bs ≤ length l → seen (paste l at bs (length bs)) (at + length bs) ≡ seen l at plus bs
-unfolding pasted
-plus-copied l bs at h =
-    ap (λ (x : List ℕ). seen (take at l ++ x ++ drop (at + length bs) l) (at + length bs)) (take-length bs) ∙ sym (plus-in l bs at h)
 
 -- a record's bytes are the record written
 pub emitted : (w x : Seen) (bs : List ℕ) (r : Report) → x ≡ w plus bs → bs ≡ encode r → x ≡ w writes (r ∷ [])
@@ -64,6 +58,14 @@ module _ (l bs : List ℕ) (at : ℕ) (inside : at ≤ length l) where
 pub pasted_length : (l bs : List ℕ) (at : ℕ) → at + length bs ≤ length l → length (pasted l at bs) ≡ length l
 unfolding pasted
 pasted_length l bs at h = simp (length-append, length-drop) (omega (arith, length-take-le at l (omega arith)))
+
+-- bytes copied to the part of them from a on
+pub pasted-part : (l ys bs : List ℕ) (a k : ℕ) → ys ≡ bs → k ≡ length bs → put_mid a k l ys ≡ pasted l a bs
+unfolding pasted
+pasted-part l ys bs a k e f =
+    ap₂ (λ (x : List ℕ) (n : ℕ). take a l ++ (x ++ drop n (drop a l))) e f
+    ∙ ap (λ (x : List ℕ). take a l ++ (bs ++ x)) (drop-drop (length bs) a l)
+    ∙ sym (append_assoc (take a l) bs (drop (a + length bs) l))
 
 -- no bytes
 pub pasted-nil : (l : List ℕ) (at : ℕ) → pasted l at [] ≡ l
@@ -512,19 +514,3 @@ answer-last l k m o at i end a b c d x y z u rs p e q =
     ap (λ (n : List ℕ). seen n end) q
     ∙ reset l m (encode (answer a b c d)) (encode (answer x y z u)) at end rs (answer-length a b c d ∙ sym (answer-length x y z u))
     (e ∙ ap (λ (w : Seen). w writes rs) p)
-
--- Zeros ---------------------------------------------------------------------------------------
-
--- what a loop that writes zeros from `at` on leaves
-pub zeroed : (l : List ℕ) (at : ℕ) → at ≤ length l → paste l at (replicate (length l - at) 0) (length l - at) ≡ take at l ++ replicate (length l - at) 0
-zeroed l at h =
-    let k : ℕ = length l - at in
-    let z : List ℕ = replicate k 0 in
-    ap (λ (x : List ℕ). take at l ++ x ++ drop (at + k) l) (take_all k z (rw (length-replicate {A = ℕ}) (omega arith)))
-    ∙ ap (λ (x : List ℕ). take at l ++ z ++ x) (drop_of_length-le l {i = at + k} (omega arith))
-    ∙ append-nil (take at l ++ z)
-
-pub zeroed-none : (l : List ℕ) (at : ℕ) → length l ≤ at → l ≡ take at l ++ replicate (length l - at) 0
-zeroed-none l at h =
-    let e : length l - at ≡ 0 = omega arith in
-    rw e (sym (append-nil (take at l) ∙ take_all at l h))

@@ -22,31 +22,23 @@ pub fn put(out: &mut [u8], at: usize, src: &[u8]) -> usize
     if n - at < src.len() {
         return n + 1;
     }
-    let mut i = 0;
-    while i < src.len() {
-        out[at + i] = src[i];
-        i += 1;
-    }
-    at + src.len()
+    let end = at + src.len();
+    out[at..end].copy_from_slice(src);
+    end
 }
 
 // The low bytes of a number, lowest first.
 fn bytes2(x: u16) -> [u8; 2]
     ensures { result ≡ bytes 2 x }
 {
-    [(x % 256) as u8, (x / 256 % 256) as u8]
+    x.to_le_bytes()
 }
 
 // A number as four bytes, little-endian.
 pub fn bytes4(x: u32) -> [u8; 4]
     ensures { result ≡ bytes 4 x }
 {
-    [
-        (x % 256) as u8,
-        (x / 256 % 256) as u8,
-        (x / 256 / 256 % 256) as u8,
-        (x / 256 / 256 / 256 % 256) as u8,
-    ]
+    x.to_le_bytes()
 }
 
 // A number's four bytes in the place of those at `at`.
@@ -54,10 +46,7 @@ fn store4(out: &mut [u8], at: usize, x: u32)
     requires { at + 4 ≤ length out.old }
     ensures { out.new ≡ pasted out.old at (bytes 4 x) }
 {
-    out[at] = (x % 256) as u8;
-    out[at + 1] = (x / 256 % 256) as u8;
-    out[at + 2] = (x / 256 / 256 % 256) as u8;
-    out[at + 3] = (x / 256 / 256 / 256 % 256) as u8;
+    out[at..at + 4].copy_from_slice(&bytes4(x));
 }
 
 // The bytes of each of `words`, four each, in the place of those from `at` on.
@@ -65,10 +54,8 @@ fn store_words(out: &mut [u8], at: usize, words: &[u32])
     requires { at + 4 * length words.now ≤ length out.old }
     ensures { out.new ≡ pasted out.old at (word_bytes words.now) }
 {
-    let mut i = 0;
-    while i < words.len() {
+    for i in 0..words.len() {
         store4(out, at + 4 * i, words[i]);
-        i += 1;
     }
 }
 
@@ -93,14 +80,7 @@ pub fn put_words(out: &mut [u8], at: usize, head: &[u8], words: &[u32]) -> usize
 pub fn bits(x: i64) -> u32
     ensures { bytes 4 result ≡ i32 x }
 {
-    if x < 0 {
-        let back = (-1 - x) as u64;
-        if 4294967295 < back {
-            return 0;
-        }
-        return (4294967295 - back) as u32;
-    }
-    let wide = x as u64;
+    let wide = x.max(-4294967296).cast_unsigned();
     (wide % 4294967296) as u32
 }
 
@@ -224,41 +204,33 @@ pub fn zero_from(out: &mut [u8], at: usize)
     ensures { out.new ≡ take at out.old ++ replicate (length out.old - at) 0 }
 {
     if at < out.len() {
-        let n = out.len() - at;
-        let mut k = 0;
-        while k < n {
-            out[at + k] = 0;
-            k += 1;
-        }
+        out[at..].fill(0);
     }
 }
 
 // The sheet read back -------------------------------------------------------------------------
 
-// What stands at a position of a report memory: a record, by its kind and the position after it, or the end of the sheet.
-#[derive(Clone, Copy)]
-pub enum Next {
-    Found(u16, usize),
-    End,
+// A record that stands in a report memory: its kind, and the position after it.
+#[derive(Clone, Copy, PartialEq, Eq)]
+pub struct Found {
+    pub kind: u16,
+    pub end: usize,
 }
 
-// The record at a position of a report memory, or the end of the sheet.
-pub fn next_record(memory: &[u8], at: usize) -> Next
+// The record at a position of a report memory; none at the end of the sheet.
+pub fn next_record(memory: &[u8], at: usize) -> Option<Found>
     ensures { result ≡ next_record memory.now at }
 {
     let n = memory.len();
     if n <= at {
-        return Next::End;
+        return None;
     }
     let size = wire::u16_at(memory, at);
     if size == 0 {
-        return Next::End;
+        return None;
     }
     let kind = wire::u16_at(memory, at + 2);
-    let room = n - at;
-    let bytes = size as usize;
-    if room < bytes {
-        return Next::Found(kind, n);
-    }
-    Next::Found(kind, at + bytes)
+    let bytes = usize::from(size);
+    let end = at + bytes.min(n - at);
+    Some(Found { kind, end })
 }

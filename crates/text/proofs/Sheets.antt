@@ -5,7 +5,8 @@ use Prim.Native.Nat.{ℕ, zero, suc, ◌+◌, ◌-◌, ◌≤◌}
 use native.Mathlib.Omega.{arith}
 use lib.ListN.{length, take, drop}
 use Rattle.rules.specs.Records.{Report, record_of, records_from, records}
-use Rattle.records.specs.declared.Next.TheVariants.{Found, End}
+use Rattle.std.specs.Prelude.{Some, None}
+use Rattle.records.specs.declared.Found.{Found}
 use Rattle.records.specs.Next.{next_record}
 use Rattle.records.specs.Seen.{Seen}
 use Rattle.records.proofs.NextLaws.{Follows, next-follows, next-ends}
@@ -27,19 +28,19 @@ left-start w report = record { inside = omega arith; fuel = length report; enoug
 
 module _ {w : Seen} {report : List ℕ} {x : Seen} {from : ℕ} (l : Left w report x from) where
   -- one record more
-  pub left-more : (kind to : ℕ) (y : Seen) → next_record report from ≡ Found kind to →
-      y ≡ x types line_of (record_of (take (length report - from) (drop from report))) → Left w report y to
+  pub left-more : (found : Found) (y : Seen) → next_record report from ≡ Some found →
+      y ≡ x types line_of (record_of (take (length report - from) (drop from report))) → Left w report y found.end
   unfolding text_of
-  left-more kind to y e q = go l.fuel l.enough l.is
+  left-more found y e q = go l.fuel l.enough l.is
     where
-      f : Follows report from kind to
-      f = next-follows report from kind to e
+      f : Follows report from found
+      f = next-follows report from found e
 
-      go : (fuel : ℕ) → length report ≤ from + fuel → x types text_of (records_from fuel (drop from report)) ≡ w → Left w report y to
+      go : (fuel : ℕ) → length report ≤ from + fuel → x types text_of (records_from fuel (drop from report)) ≡ w → Left w report y found.end
       go zero enough is = let a = f.further in let b = f.inside in absurd (omega arith)
       go (suc fuel) enough is =
           let r : Report = record_of (drop from report) in
-          let rest : List Report = records_from fuel (drop to report) in
+          let rest : List Report = records_from fuel (drop found.end report) in
           let a = f.further in
           record {
             inside = f.inside;
@@ -53,6 +54,6 @@ module _ {w : Seen} {report : List ℕ} {x : Seen} {from : ℕ} (l : Left w repo
           }
 
   -- the last was typed
-  pub left_end : next_record report from ≡ End → x ≡ w
+  pub left_end : next_record report from ≡ None → x ≡ w
   unfolding text_of ◌types◌
   left_end e = ap (λ (rs : List Report). x types text_of rs) (sym (next-ends report from e l.fuel)) ∙ l.is

@@ -1,14 +1,17 @@
 -- Laws of text typed into a lent slice, and of a number's digits.
 use mathlib.Core.Path.{◌≡◌, refl, sym, ap, ap₂, ◌∙◌}
-use mathlib.Core.Bool.{Bool, true, false}
+use mathlib.Core.Bool.{Bool, true, false, true≢false}
 use mathlib.Core.List.{List, [], ◌∷◌, ◌++◌}
 use Prim.Native.Nat.{ℕ, zero, suc, ◌+◌, ◌-◌, ◌/◌, ◌%◌, ◌≤◌, ◌<◌}
 use native.Mathlib.Omega.{arith}
 use native.Mathlib.Numerals.{add-one}
-use lib.Dec.{ltb}
+use lib.Dec.{eqb, leb, ltb}
 use lib.ListN.{length, get_or, set, take, drop, drop_of_length-le}
 use lib.Seq.{set_split, append_snoc, drop-cons}
-use borrow.Author.Tests.{lt-ltb, le-ltb, ltb-false, ne_eqb}
+use borrow.Author.Tests.{lt-ltb, le-ltb, leb-true, ltb-true, ltb-false, eqb-true, eqb-false, ne_eqb}
+use Rattle.rules.specs.Words.{within}
+use Rattle.rules.proofs.Ranges.{inside}
+use Rattle.rules.proofs.Tests.{and_l, and_r}
 use Rattle.rules.specs.Bytes.{as_signed}
 use Rattle.rules.specs.Records.{cause_number, cause_of}
 use Rattle.records.specs.Seen.{Seen, seen, pasted, ◌plus◌}
@@ -146,3 +149,19 @@ cause-same (suc (suc (suc (suc (suc zero))))) h k = refl
 cause-same (suc (suc (suc (suc (suc (suc zero)))))) h k = refl
 cause-same (suc (suc (suc (suc (suc (suc (suc zero))))))) h k = refl
 cause-same (suc (suc (suc (suc (suc (suc (suc (suc n)))))))) h k = let e : n ≡ 0 = omega arith in rw e
+
+-- the number is a cause's, or it is none
+pub cause-in : (n : ℕ) → within 1 8 n ≡ true → cause_number (cause_of n) ≡ n
+unfolding within
+cause-in n e = cause-same n (leb-true 1 n (and_l _ _ e)) (leb-true n 8 (and_r (leb 1 n) _ e))
+
+pub cause-out : (n : ℕ) → within 1 8 n ≡ false → cause_number (cause_of n) ≡ 10
+cause-out n e = go (ltb 8 n) refl (eqb n 0) refl
+  where
+    go : (s : Bool) → ltb 8 n ≡ s → (t : Bool) → eqb n 0 ≡ t → cause_number (cause_of n) ≡ 10
+    go true f t g = cause-large n (ltb-true 8 n f)
+    go false f true g = cause-none n (eqb-true n 0 g)
+    go false f false g =
+        let a = ltb-false 8 n f in
+        let b = eqb-false n 0 g in
+        absurd (true≢false (sym (inside 1 8 n (omega (arith, b)) a) ∙ e))

@@ -8,8 +8,6 @@ ghost use Rattle.records.specs.Seen.{seen};
 ghost use Rattle.text.specs.Lines.{decimal, signed_text, word, words, signed_word, line, line_of, text_of};
 ghost use Rattle.text.specs.Typing.{◌types◌};
 
-use records::Next;
-
 // Numbers -------------------------------------------------------------------------------------
 
 // A byte at `at`, and the position after it. Where it does not fit nothing is written, and the position is past the end.
@@ -75,10 +73,8 @@ fn put_words(out: &mut [u8], at: usize, fields: &[u32]) -> usize
     ensures { seen out.new result ≡ seen out.old at types words fields.now }
 {
     let mut pos = at;
-    let mut i = 0;
-    while i < fields.len() {
+    for i in 0..fields.len() {
         pos = put_word(out, pos, fields[i]);
-        i += 1;
     }
     pos
 }
@@ -98,14 +94,14 @@ pub fn put_fields(out: &mut [u8], at: usize, kind: u32, fields: &[u32]) -> usize
 fn byte_at(s: &[u8], at: usize) -> u32
     ensures { result ≡ u8_at s.now at }
 {
-    wire::u8_at(s, at) as u32
+    u32::from(wire::u8_at(s, at))
 }
 
 // The number of 16 bits at a position as one of 32.
 fn half_at(s: &[u8], at: usize) -> u32
     ensures { result ≡ u16_at s.now at }
 {
-    wire::u16_at(s, at) as u32
+    u32::from(wire::u16_at(s, at))
 }
 
 // 64: message number, refusal or 0, place mask, count.
@@ -167,13 +163,7 @@ fn cause_at(s: &[u8], at: usize) -> u32
     ensures { result ≡ cause_number (cause_of (u8_at s.now at)) }
 {
     let n = byte_at(s, at);
-    if n == 0 {
-        return 10;
-    }
-    if 8 < n {
-        return 10;
-    }
-    n
+    if (1..=8).contains(&n) { n } else { 10 }
 }
 
 // 68: complex id, series, side, cause.
@@ -221,29 +211,16 @@ fn put_looked(out: &mut [u8], at: usize, s: &[u8]) -> usize
 pub fn put_line(out: &mut [u8], at: usize, s: &[u8]) -> usize
     ensures { seen out.new result ≡ seen out.old at types line_of (record_of s.now) }
 {
-    let kind = wire::u16_at(s, 2);
-    if kind == 64 {
-        return put_answer(out, at, s);
+    match wire::u16_at(s, 2) {
+        64 => put_answer(out, at, s),
+        65 => put_trade(out, at, s),
+        66 => put_pair(out, at, s),
+        67 => put_generated(out, at, s),
+        68 => put_removed(out, at, s),
+        70 => put_crossed(out, at, s),
+        71 => put_cancelled(out, at, s),
+        _ => put_looked(out, at, s),
     }
-    if kind == 65 {
-        return put_trade(out, at, s);
-    }
-    if kind == 66 {
-        return put_pair(out, at, s);
-    }
-    if kind == 67 {
-        return put_generated(out, at, s);
-    }
-    if kind == 68 {
-        return put_removed(out, at, s);
-    }
-    if kind == 70 {
-        return put_crossed(out, at, s);
-    }
-    if kind == 71 {
-        return put_cancelled(out, at, s);
-    }
-    put_looked(out, at, s)
 }
 
 // The lines of all records of a report memory, one after another.
@@ -252,12 +229,9 @@ pub fn put_sheet(out: &mut [u8], at: usize, report: &[u8]) -> usize
 {
     let mut from = 0;
     let mut pos = at;
-    loop {
-        let next = records::next_record(report, from);
-        let Next::Found(_kind, to) = next else {
-            return pos;
-        };
+    while let Some(found) = records::next_record(report, from) {
         pos = put_line(out, pos, &report[from..]);
-        from = to;
+        from = found.end;
     }
+    pos
 }

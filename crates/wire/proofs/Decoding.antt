@@ -1,12 +1,13 @@
 -- The refusals 1 to 4 and 14 and the message, each from what the code has found of the bytes.
-use mathlib.Core.Path.{◌≡◌, refl}
+use Rattle.std.specs.Ordering.{is_le, nat_cmp}
+use mathlib.Core.Path.{◌≡◌, refl, ap₂}
 use mathlib.Core.Bool.{Bool, true, false, not, ◌&&◌, ◌||◌}
 use mathlib.Core.List.{List}
-use Prim.Native.Nat.{ℕ, ◌<◌, ◌≤◌}
+use Prim.Native.Nat.{ℕ, suc, ◌<◌, ◌≤◌}
 use native.Mathlib.Omega.{arith}
 use lib.Dec.{leb, eqb}
 use lib.ListN.{length}
-use borrow.Author.Tests.{lt-ltb, le-ltb, eq-eqb, ne_eqb, eqb-true, eqb-false}
+use borrow.Author.Tests.{lt-ltb, le-ltb, le-leb, lt-leb, leb-true, leb-false, eq-eqb, ne_eqb, eqb-true, eqb-false}
 use Rattle.rules.specs.declared.Regular.{Regular}
 use Rattle.rules.specs.declared.Complex.{Complex}
 use Rattle.rules.specs.declared.Message.{Message}
@@ -21,6 +22,19 @@ use Rattle.rules.proofs.Tests.{and-true}
 use Rattle.rules.proofs.Ranges.{below, inside, within-top}
 
 -- Ranges --------------------------------------------------------------------------------------
+
+-- the library's test of a range, `(low..=high).contains(&x)`
+nat-le : (a b : ℕ) → is_le (nat_cmp a b) ≡ leb a b
+nat-le a b = go (leb (suc a) b) refl (eqb a b) refl
+  where
+    go : (s : Bool) → leb (suc a) b ≡ s → (t : Bool) → eqb a b ≡ t → is_le (nat_cmp a b) ≡ leb a b
+    go true e t f = let h = leb-true _ _ e in rw (e, le-leb a b (omega arith)) refl
+    go false e true f = let h = eqb-true _ _ f in rw (e, f, le-leb a b (omega arith)) refl
+    go false e false f = let h = leb-false _ _ e in let n = eqb-false _ _ f in rw (e, f, lt-leb a b (omega (arith, n))) refl
+
+pub contained : (low high x : ℕ) → (is_le (nat_cmp low x) && is_le (nat_cmp x high)) ≡ within low high x
+unfolding within
+contained low high x = ap₂ (λ (a b : Bool). a && b) (nat-le low x) (nat-le x high)
 
 -- an id is any number of 32 bits but 0
 pub id-is : (x : ℕ) → x < 4294967296 → not (eqb x 0) ≡ is_id x

@@ -20,6 +20,11 @@ pub u32-past : (s : List ℕ) (at : ℕ) → length s ≤ at → u32_at s at ≡
 unfolding u32_at
 u32-past s at h = let a = u16-past s at h in let b = u16-past s (at + 2) (omega arith) in omega arith
 
+-- a number of 32 bits, byte by byte
+pub u32-bytes : (s : List ℕ) (at : ℕ) → u32_at s at ≡ u8_at s at + 256 * u8_at s (at + 1) + 65536 * u8_at s (at + 2) + 16777216 * u8_at s (at + 3)
+unfolding u32_at u16_at
+u32-bytes s at = let e : at + 2 + 1 ≡ at + 3 = omega arith in rw e (omega arith)
+
 -- what stands at i of the bytes from n on
 pub u8-drop : (n : ℕ) (s : List ℕ) (i : ℕ) → u8_at (drop n s) i ≡ u8_at s (n + i)
 unfolding u8_at

@@ -12,20 +12,6 @@ use rules::{Complex, Regular};
 
 // Reading -------------------------------------------------------------------------------------
 
-// A byte as a number of 16 bits.
-fn wide16(x: u8) -> u16
-    ensures { (result ≡ x) × (result < 256) }
-{
-    x as u16
-}
-
-// A number of 16 bits as one of 32.
-fn wide32(x: u16) -> u32
-    ensures { (result ≡ x) × (result < 65536) }
-{
-    x as u32
-}
-
 // The number at a position, little-endian. A byte past the end of `s` is read as 0.
 pub fn u8_at(s: &[u8], at: usize) -> u8
     ensures { result ≡ u8_at s.now at }
@@ -40,9 +26,7 @@ pub fn u16_at(s: &[u8], at: usize) -> u16
     if s.len() <= at {
         return 0;
     }
-    let low = wide16(u8_at(s, at));
-    let high = wide16(u8_at(s, at + 1));
-    low + 256 * high
+    u16::from_le_bytes([u8_at(s, at), u8_at(s, at + 1)])
 }
 
 // The number of 32 bits at a position; a byte past the end of `s` is read as 0.
@@ -52,20 +36,19 @@ pub fn u32_at(s: &[u8], at: usize) -> u32
     if s.len() <= at {
         return 0;
     }
-    let low = wide32(u16_at(s, at));
-    let high = wide32(u16_at(s, at + 2));
-    low + 65536 * high
+    u32::from_le_bytes([
+        u8_at(s, at),
+        u8_at(s, at + 1),
+        u8_at(s, at + 2),
+        u8_at(s, at + 3),
+    ])
 }
 
-// The as_signed number whose 32 bits, in two's complement, are `x`.
+// The signed number whose 32 bits, in two's complement, are `x`.
 pub fn as_signed(x: u32) -> i32
     ensures { result ≡ as_signed x }
 {
-    if x < 2147483648 {
-        return x as i32;
-    }
-    let back = (4294967295 - x) as i32;
-    -1 - back
+    x.cast_signed()
 }
 
 // The same numbers where the bytes are long enough to have them, with no test of the length.
@@ -81,9 +64,7 @@ pub fn half_at(s: &[u8], at: usize) -> u16
     requires { at + 2 ≤ length s.now }
     ensures { result ≡ u16_at s.now at }
 {
-    let low = wide16(byte_at(s, at));
-    let high = wide16(byte_at(s, at + 1));
-    low + 256 * high
+    u16::from_le_bytes([s[at], s[at + 1]])
 }
 
 // The number of 32 bits at a position that `s` has.
@@ -91,9 +72,7 @@ pub fn word_at(s: &[u8], at: usize) -> u32
     requires { at + 4 ≤ length s.now }
     ensures { result ≡ u32_at s.now at }
 {
-    let low = wide32(half_at(s, at));
-    let high = wide32(half_at(s, at + 2));
-    low + 65536 * high
+    u32::from_le_bytes([s[at], s[at + 1], s[at + 2], s[at + 3]])
 }
 
 // A message -----------------------------------------------------------------------------------
@@ -102,12 +81,7 @@ pub fn word_at(s: &[u8], at: usize) -> u32
 fn is_limit(far: u32, n: i32) -> bool
     ensures { result ≡ is_limit far n }
 {
-    let top = far as i64;
-    let x = n as i64;
-    if x < 0 - top {
-        return false;
-    }
-    x <= top
+    n.unsigned_abs() <= far
 }
 
 // An order's fields are in their ranges; that its price is a multiple of the increment in force is asked of the venue.
@@ -229,10 +203,7 @@ pub fn increment_in_range(series: u8, increment: u8) -> bool
 pub fn sweep_in_range(n: u8) -> bool
     ensures { result ≡ within 1 32 n }
 {
-    if n == 0 {
-        return false;
-    }
-    n <= 32
+    (1..=32).contains(&n)
 }
 
 // The order at the front of `s`, which shows `display` of its quantity.

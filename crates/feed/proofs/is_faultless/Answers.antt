@@ -1,34 +1,28 @@
 -- `feed::is_faultless` meets its contract.
-use mathlib.Core.Path.{refl}
+use mathlib.Core.Path.{refl, sym, ◌∙◌}
 use native.Mathlib.Omega.{arith}
-use Rattle.feed.proofs.Cursors.{tested-start, tested-end, tested-not, tested-on, part-within, part-zero, part-some}
+use Rattle.feed.proofs.Cursors.{tested-start, tested-end, tested-not, tested-on, part-within, part-none, part-some}
 use Rattle.feed.proofs.is_faultless.Goals as goal
 
 pub loop-at-init : goal.loop-at-init
 loop-at-init c = tested-start c.args.line.now
 
-pub part_length-length-requires : goal.part_length-length-requires
-part_length-length-requires c = tt
-
-pub returns-then-length-eq0 : goal.returns-then-length-eq0
-returns-then-length-eq0 c = let g = c.loop-at in tested-not _ g.last g.at g.invariant (omega arith) (part-zero _ _ _ c.part_length-length.ensures (omega arith))
+pub returns-in_default : goal.returns-in_default
+returns-in_default c = let g = c.loop-at in tested-not _ g.last g.at g.invariant (omega arith) (part-none _ _ (sym c.in_default.is ∙ c.part_length.ensures))
 
 pub number_at-last-requires : goal.number_at-last-requires
 number_at-last-requires c = tt
 
 pub overflow_add-at-in-loop-at : goal.overflow_add-at-in-loop-at
-overflow_add-at-in-loop-at c = let g = c.loop-at in let p = part-some _ _ _ c.part_length-length.ensures
-    (λ h. omega arith) in let w = part-within c.args.line.now g.last g.at g.invariant
+overflow_add-at-in-loop-at c = let g = c.loop-at in let p = part-some _ _ _ (sym c.in-Some.is ∙ c.part_length.ensures) in let w = part-within c.args.line.now g.last g.at g.invariant
     (omega arith) _ _ p.0 p.1 refl in omega arith
 
 pub loop-at-smaller : goal.loop-at-smaller
-loop-at-smaller c = let g = c.loop-at in let p = part-some _ _ _ c.part_length-length.ensures
-    (λ h. omega arith) in let w = part-within c.args.line.now g.last g.at g.invariant
+loop-at-smaller c = let g = c.loop-at in let p = part-some _ _ _ (sym c.in-Some.is ∙ c.part_length.ensures) in let w = part-within c.args.line.now g.last g.at g.invariant
     (omega arith) _ _ p.0 p.1 refl in omega arith
 
 pub loop-at-preserved : goal.loop-at-preserved
-loop-at-preserved c = let g = c.loop-at in let p = part-some _ _ _ c.part_length-length.ensures
-    (λ h. omega arith) in tested-on c.args.line.now g.last g.at g.invariant (omega arith) _ _
+loop-at-preserved c = let g = c.loop-at in let p = part-some _ _ _ (sym c.in-Some.is ∙ c.part_length.ensures) in tested-on c.args.line.now g.last g.at g.invariant (omega arith) _ _
     p.0 p.1 c.number_at-last.ensures
 
 pub returns : goal.returns

@@ -1,8 +1,7 @@
 -- `feed::part_length` meets its contract.
-use mathlib.Core.Path.{ap, ◌∙◌}
+use mathlib.Core.Path.{sym, ◌∙◌}
 use native.Mathlib.Omega.{arith}
-use Rattle.feed.proofs.Cursors.{part_low, part-head, number-ahead}
-use Rattle.reader.specs.Head.{head_length}
+use Rattle.feed.proofs.Cursors.{part_low, part-head, part-not, number-ahead}
 use Rattle.feed.proofs.part_length.Goals as goal
 
 pub returns-then-number-last : goal.returns-then-number-last
@@ -11,7 +10,12 @@ returns-then-number-last c = let e = c.number_at-number.ensures in part_low c.ar
 pub overflow_add-at : goal.overflow_add-at
 overflow_add-at c = let e = c.number_at-number.ensures in let z = number-ahead c.args.line.now c.args.at (omega arith) in omega arith
 
-pub returns : goal.returns
-returns c = let e = c.number_at-number.ensures in
-    c.head_length.ensures ∙ ap head_length c.message_head-head.ensures ∙ part-head c.args.line.now c.args.at c.args.last
-    (omega arith)
+pub returns-in-Message : goal.returns-in-Message
+returns-in-Message c =
+    let e = c.number_at-number.ensures in
+    part-head c.args.line.now c.args.at c.args.last (omega arith) _ (sym c.message_head.ensures ∙ c.in-Message.is)
+
+pub returns-in_default : goal.returns-in_default
+returns-in_default c =
+    let e = c.number_at-number.ensures in
+    part-not c.args.line.now c.args.at c.args.last (omega arith) (λ n m. c.in_default.not-Message n (c.message_head.ensures ∙ m))

@@ -1,7 +1,8 @@
 -- `feed::same_messages` meets its contract.
 use mathlib.Core.Path.{ap₂, ◌∙◌}
 use Rattle.feed.specs.Feed.{same}
+use Rattle.feed.proofs.Cursors.{same-pointwise}
 use Rattle.feed.proofs.same_messages.Goals as goal
 
 pub returns : goal.returns
-returns c = c.same_bytes.ensures ∙ ap₂ same c.message_at-a.ensures c.message_at-b.ensures
+returns c = c.eq.ensures ∙ same-pointwise _ _ ∙ ap₂ same c.message_at-a.ensures c.message_at-b.ensures

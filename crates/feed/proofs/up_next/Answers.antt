@@ -25,7 +25,7 @@ returns-then-there-number c =
     next_fits c.args.done c.args.main.now c.args.spare.now c.args.at c.args.other c.requires.main c.requires.spare c.requires.in_main c.requires.in_spare c.requires.left
     (omega arith) (omega arith) in
     let z = fits in let e = c.number_at-here.ensures in
-    let f = c.number_at-there.ensures in (add-one _, stop-neither _ _ _ (λ h. omega arith) (λ h. omega arith), omega arith)
+    let f = c.number_at-there.ensures in record { comes = stop-neither _ _ _ (λ h. omega arith) (λ h. omega arith); few = omega arith }
 
 pub returns-then-here-number : goal.returns-then-here-number
 returns-then-here-number c =
@@ -36,7 +36,7 @@ returns-then-here-number c =
     next_fits c.args.done c.args.main.now c.args.spare.now c.args.at c.args.other c.requires.main c.requires.spare c.requires.in_main c.requires.in_spare c.requires.left
     (omega arith) (omega arith) in
     let z = fits in let e = c.number_at-here.ensures in
-    let f = c.number_at-there.ensures in (add-one _, stop-spare _ _ _ (λ h. omega arith) (omega arith), omega arith)
+    let f = c.number_at-there.ensures in record { comes = (add-one _, sym (stop-spare _ _ _ (λ h. omega arith) (omega arith))); few = omega arith }
 
 pub returns-then-there-number-2 : goal.returns-then-there-number-2
 returns-then-there-number-2 c =
@@ -47,7 +47,7 @@ returns-then-there-number-2 c =
     next_fits c.args.done c.args.main.now c.args.spare.now c.args.at c.args.other c.requires.main c.requires.spare c.requires.in_main c.requires.in_spare c.requires.left
     (omega arith) (omega arith) in
     let z = fits in let e = c.number_at-here.ensures in
-    let f = c.number_at-there.ensures in (add-one _, stop-main _ _ _ (omega arith) (λ h. omega arith), omega arith)
+    let f = c.number_at-there.ensures in record { comes = (add-one _, sym (stop-main _ _ _ (omega arith) (λ h. omega arith))); few = omega arith }
 
 pub same_messages-requires : goal.same_messages-requires
 same_messages-requires c = let e = c.number_at-here.ensures in
@@ -65,7 +65,7 @@ returns-then-same_messages c =
     (omega arith) (omega arith) in
     let z = fits in let e = c.number_at-here.ensures in
     let f = c.number_at-there.ensures in
-    (add-one _, stop-same _ _ _ (omega arith) (omega arith) (sym c.same_messages.ensures ∙ c.if-same_messages.true), omega arith)
+    record { comes = (add-one _, sym (stop-same _ _ _ (omega arith) (omega arith) (sym c.same_messages.ensures ∙ c.if-same_messages.true))); few = omega arith }
 
 pub returns : goal.returns
 returns c =
@@ -77,4 +77,4 @@ returns c =
     (omega arith) (omega arith) in
     let z = fits in let e = c.number_at-here.ensures in
     let f = c.number_at-there.ensures in
-    (add-one _, stop-differ _ _ _ (omega arith) (omega arith) (sym c.same_messages.ensures ∙ c.if-same_messages.false), omega arith)
+    record { comes = stop-differ _ _ _ (omega arith) (omega arith) (sym c.same_messages.ensures ∙ c.if-same_messages.false); few = omega arith }

@@ -1,17 +1,19 @@
 -- `feed_run::hand_out` meets its contract.
-use mathlib.Core.Path.{sym, ◌∙◌}
+use mathlib.Core.Path.{refl, sym, ◌∙◌}
 use native.Mathlib.Omega.{arith}
 use Prim.Native.Nat.{◌+◌, ◌-◌, ◌^◌, ◌≤◌, ◌<◌}
 use lib.ListN.{length}
-use Rattle.feed_run.proofs.FeedsLaws.{asked, asked-one, turn_stopped, turn-full, turn-handed}
+use Rattle.feed_run.proofs.FeedsLaws.{asked, asked-one, stop-some, turn_stopped, turn-full, turn-handed}
 use Rattle.feed_run.proofs.hand_out.Goals as goal
 
-pub returns-then-stopped-ne0 : goal.returns-then-stopped-ne0
-returns-then-stopped-ne0 c = rw c.stop_at.ensures (turn_stopped c.args.t c.args.main.now c.args.spare.now c.args.numbers.now c.args.report.now _
-    c.up_next-up.ensures.1 c.if-stopped-ne0.true c.requires.within c.requires.dense c.requires.sound)
+pub returns-in-Err : goal.returns-in-Err
+returns-in-Err c =
+    let told = rw c.in-Err.is at c.up_next.ensures.comes in
+    rw c.stop_at.ensures (turn_stopped c.args.t c.args.main.now c.args.spare.now c.args.numbers.now c.args.report.now _
+    (c.stop_number.ensures ∙ told) (λ z. stop-some c.in-Err.stop (sym c.stop_number.ensures ∙ z)) c.requires.within c.requires.dense c.requires.sound)
 
 pub next_part-part-requires : goal.next_part-part-requires
-next_part-part-requires c = asked _ _ _ _ _ _ _ c.up_next-up.ensures.0 c.requires.main-ready c.requires.spare-ready c.up_next-up.ensures.1 c.if-stopped-ne0.false
+next_part-part-requires c = asked _ _ _ _ _ _ _ (rw c.in-Ok.is at c.up_next.ensures.comes).0 c.requires.main-ready c.requires.spare-ready (sym (rw c.in-Ok.is at c.up_next.ensures.comes).1) refl
 
 pub try_step-r-requires : goal.try_step-r-requires
 try_step-r-requires c = record { dense = c.requires.dense; sound = c.requires.sound.venue }
@@ -19,15 +21,15 @@ try_step-r-requires c = record { dense = c.requires.dense; sound = c.requires.so
 pub returns-then-report-from : goal.returns-then-report-from
 returns-then-report-from c = rw c.stop_at-then-report-from.ensures (turn-full c.args.t c.args.main.now c.args.spare.now c.args.numbers.now c.try_step-r.new.numbers c.args.report.now
     c.try_step-r.new.out _ _ c.try_step-r.result
-    (sym c.up_next-up.ensures.1 ∙ c.if-stopped-ne0.false) c.up_next-up.ensures.0
-    (omega arith) c.next_part-part.ensures c.requires.within c.requires.sound c.try_step-r.ensures (omega arith))
+    (rw c.in-Ok.is at c.up_next.ensures.comes).1 (rw c.in-Ok.is at c.up_next.ensures.comes).0
+    (let few = c.up_next.ensures.few in omega arith) c.next_part-part.ensures c.requires.within c.requires.sound c.try_step-r.ensures (omega arith))
 
 pub moved-next-requires : goal.moved-next-requires
-moved-next-requires c = asked-one _ _ _ _ c.up_next-up.ensures.0 c.requires.main-ready
+moved-next-requires c = asked-one _ _ _ _ (rw c.in-Ok.is at c.up_next.ensures.comes).0 c.requires.main-ready
 
 pub moved-after-requires : goal.moved-after-requires
 moved-after-requires c = asked-one _ _ _ _
-    c.up_next-up.ensures.0 c.requires.spare-ready
+    (rw c.in-Ok.is at c.up_next.ensures.comes).0 c.requires.spare-ready
 
 pub overflow_add-result : goal.overflow_add-result
 overflow_add-result c =
@@ -47,6 +49,6 @@ returns c =
     c.args.t.written = omega arith in
     turn-handed c.args.t c.args.main.now c.args.spare.now
     c.args.numbers.now c.try_step-r.new.numbers c.args.report.now c.try_step-r.new.out _ _ c.try_step-r.result
-    (sym c.up_next-up.ensures.1 ∙ c.if-stopped-ne0.false) c.up_next-up.ensures.0
-    (omega arith) c.next_part-part.ensures c.requires.within c.requires.sound c.try_step-r.ensures roomy _ _
+    (rw c.in-Ok.is at c.up_next.ensures.comes).1 (rw c.in-Ok.is at c.up_next.ensures.comes).0
+    (let few = c.up_next.ensures.few in omega arith) c.next_part-part.ensures c.requires.within c.requires.sound c.try_step-r.ensures roomy _ _
     c.moved-next.ensures c.moved-after.ensures

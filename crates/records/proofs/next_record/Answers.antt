@@ -10,8 +10,5 @@ returns-then-n-at c = let s = c.args in sym (next-none s.memory.now s.at (u16-pa
 pub returns-then-size-eq0 : goal.returns-then-size-eq0
 returns-then-size-eq0 c = sym (next-none _ _ (omega arith))
 
-pub returns-then-room-bytes : goal.returns-then-room-bytes
-returns-then-room-bytes c = let s = c.args in rw c.u16_at-kind.ensures (sym (next-found s.memory.now s.at _ (λ e. omega arith) (omega arith)))
-
 pub returns : goal.returns
 returns c = let s = c.args in rw c.u16_at-kind.ensures (sym (next-found s.memory.now s.at _ (λ e. omega arith) (omega arith)))

@@ -22,12 +22,6 @@ store4-requires c = let s = c.args in let r = laid-room s.out.now s.words.now s.
     c.requires c.loop-i.out c.loop-i.i
     c.loop-i.invariant in omega arith
 
-pub overflow_add-i : goal.overflow_add-i
-overflow_add-i c = omega arith
-
-pub loop-i-smaller : goal.loop-i-smaller
-loop-i-smaller c = omega arith
-
 pub loop-i-preserved : goal.loop-i-preserved
 loop-i-preserved c = let s = c.args in
     laid_next s.out.now s.words.now s.at c.requires c.loop-i.out

@@ -1,13 +1,17 @@
-use mathlib.Core.Path.{sym, ◌∙◌}
-use native.Mathlib.Omega.{arith}
-use Rattle.text.proofs.TypingLaws.{cause-none, cause-large, cause-same}
+use mathlib.Core.Path.{◌≡◌, sym, ◌∙◌}
+use Rattle.rules.specs.Words.{within}
+use Rattle.wire.proofs.Decoding.{contained}
+use Rattle.text.proofs.TypingLaws.{cause-in, cause-out}
 use Rattle.text.proofs.cause_at.Goals as goal
 
-pub returns-then-n-eq0 : goal.returns-then-n-eq0
-returns-then-n-eq0 c = sym (cause-none _ (omega arith))
+pub returns-then-contains : goal.returns-then-contains
+returns-then-contains c =
+    let n = c.byte_at-n.result in
+    let told : c.contains.result ≡ within 1 8 n = c.contains.ensures.value ∙ rw (c.new.ensures.start, c.new.ensures.end, c.new.ensures.exhausted) (contained 1 8 n) in
+    rw (sym c.byte_at-n.ensures) (sym (cause-in n (sym told ∙ c.if-contains.true)))
 
-pub returns-then-n-gt8 : goal.returns-then-n-gt8
-returns-then-n-gt8 c = sym (cause-large _ (omega arith))
-
-pub returns : goal.returns
-returns c = c.byte_at-n.ensures ∙ sym (cause-same _ (omega arith) (omega arith))
+pub returns-else-contains : goal.returns-else-contains
+returns-else-contains c =
+    let n = c.byte_at-n.result in
+    let told : c.contains.result ≡ within 1 8 n = c.contains.ensures.value ∙ rw (c.new.ensures.start, c.new.ensures.end, c.new.ensures.exhausted) (contained 1 8 n) in
+    rw (sym c.byte_at-n.ensures) (sym (cause-out n (sym told ∙ c.if-contains.false)))

@@ -1,50 +1,52 @@
 use mathlib.Core.Path.{sym, ◌∙◌}
+use native.Mathlib.Omega.{arith}
 use borrow.Author.Tests.{ne_eqb}
 use Rattle.rules.specs.Bytes.{u16_at, kind_field}
 use Rattle.rules.specs.Records.{record_of}
 use Rattle.text.proofs.put_line.Goals as goal
 
-pub returns-then-kind-eq64 : goal.returns-then-kind-eq64
+pub returns-in-64 : goal.returns-in-64
 unfolding record_of kind_field
-returns-then-kind-eq64 c = rw (sym c.u16_at-kind.ensures ∙ c.if-kind-eq64.true) c.put_answer.ensures
+returns-in-64 c = rw (sym c.u16_at.ensures ∙ c.in-64.is) c.put_answer.ensures
 
-pub returns-then-kind-eq65 : goal.returns-then-kind-eq65
+pub returns-in-65 : goal.returns-in-65
 unfolding record_of kind_field
-returns-then-kind-eq65 c = rw (sym c.u16_at-kind.ensures ∙ c.if-kind-eq65.true) c.put_trade.ensures
+returns-in-65 c = rw (sym c.u16_at.ensures ∙ c.in-65.is) c.put_trade.ensures
 
-pub returns-then-kind-eq66 : goal.returns-then-kind-eq66
+pub returns-in-66 : goal.returns-in-66
 unfolding record_of kind_field
-returns-then-kind-eq66 c = rw (sym c.u16_at-kind.ensures ∙ c.if-kind-eq66.true) c.put_pair.ensures
+returns-in-66 c = rw (sym c.u16_at.ensures ∙ c.in-66.is) c.put_pair.ensures
 
-pub returns-then-kind-eq67 : goal.returns-then-kind-eq67
+pub returns-in-67 : goal.returns-in-67
 unfolding record_of kind_field
-returns-then-kind-eq67 c = rw (sym c.u16_at-kind.ensures ∙ c.if-kind-eq67.true) c.put_generated.ensures
+returns-in-67 c = rw (sym c.u16_at.ensures ∙ c.in-67.is) c.put_generated.ensures
 
-pub returns-then-kind-eq68 : goal.returns-then-kind-eq68
+pub returns-in-68 : goal.returns-in-68
 unfolding record_of kind_field
-returns-then-kind-eq68 c = rw (sym c.u16_at-kind.ensures
-    ∙ c.if-kind-eq68.true) c.put_removed.ensures
+returns-in-68 c = rw (sym c.u16_at.ensures
+    ∙ c.in-68.is) c.put_removed.ensures
 
-pub returns-then-kind-eq70 : goal.returns-then-kind-eq70
+pub returns-in-70 : goal.returns-in-70
 unfolding record_of kind_field
-returns-then-kind-eq70 c = rw (sym c.u16_at-kind.ensures
-    ∙ c.if-kind-eq70.true) c.put_crossed.ensures
+returns-in-70 c = rw (sym c.u16_at.ensures
+    ∙ c.in-70.is) c.put_crossed.ensures
 
-pub returns-then-kind-eq71 : goal.returns-then-kind-eq71
+pub returns-in-71 : goal.returns-in-71
 unfolding record_of kind_field
-returns-then-kind-eq71 c = rw (sym c.u16_at-kind.ensures
-    ∙ c.if-kind-eq71.true) c.put_cancelled.ensures
+returns-in-71 c = rw (sym c.u16_at.ensures
+    ∙ c.in-71.is) c.put_cancelled.ensures
 
-pub returns : goal.returns
+pub returns-in_default : goal.returns-in_default
 unfolding record_of kind_field
-returns c = let s = c.args.s.now in
-    let k = c.u16_at-kind.ensures in
+returns-in_default c =
+    let s = c.args.s.now in
+    let k = c.u16_at.ensures in
     rw (
-      ne_eqb (u16_at s 2) 64 (λ e. c.if-kind-eq64.false (k ∙ e)),
-      ne_eqb (u16_at s 2) 65 (λ e. c.if-kind-eq65.false (k ∙ e)),
-      ne_eqb (u16_at s 2) 66 (λ e. c.if-kind-eq66.false (k ∙ e)),
-      ne_eqb (u16_at s 2) 67 (λ e. c.if-kind-eq67.false (k ∙ e)),
-      ne_eqb (u16_at s 2) 68 (λ e. c.if-kind-eq68.false (k ∙ e)),
-      ne_eqb (u16_at s 2) 70 (λ e. c.if-kind-eq70.false (k ∙ e)),
-      ne_eqb (u16_at s 2) 71 (λ e. c.if-kind-eq71.false (k ∙ e)),
+      ne_eqb (u16_at s 2) 64 (λ e. omega arith),
+      ne_eqb (u16_at s 2) 65 (λ e. omega arith),
+      ne_eqb (u16_at s 2) 66 (λ e. omega arith),
+      ne_eqb (u16_at s 2) 67 (λ e. omega arith),
+      ne_eqb (u16_at s 2) 68 (λ e. omega arith),
+      ne_eqb (u16_at s 2) 70 (λ e. omega arith),
+      ne_eqb (u16_at s 2) 71 (λ e. omega arith),
     ) c.put_looked.ensures

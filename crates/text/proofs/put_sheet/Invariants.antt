@@ -8,8 +8,8 @@ use Rattle.text.specs.Typing.{◌types◌}
 use Rattle.text.proofs.Sheets.{Left}
 use Rattle.text.proofs.put_sheet.Given as goal
 
-abbrev pub invariant-loop-kind : goal.invariant-loop-kind
-invariant-loop-kind l = (length l.out ≡ length l.initial.out) × (Left (seen l.initial.out l.at types text_of (records l.report)) l.report (seen l.out l.pos) l.from)
+abbrev pub invariant-loop-found : goal.invariant-loop-found
+invariant-loop-found l = (length l.out ≡ length l.initial.out) × (Left (seen l.initial.out l.at types text_of (records l.report)) l.report (seen l.out l.pos) l.from)
 
-abbrev pub decreases-loop-kind : goal.decreases-loop-kind
-decreases-loop-kind l = length l.report - l.from
+abbrev pub decreases-loop-found : goal.decreases-loop-found
+decreases-loop-found l = length l.report - l.from

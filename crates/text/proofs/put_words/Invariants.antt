@@ -1,4 +1,3 @@
-use Prim.Native.Nat.{◌-◌, ◌≤◌}
 use mathlib.Core.Path.{◌≡◌}
 use lib.ListN.{length, drop}
 use Rattle.records.specs.Seen.{seen}
@@ -7,7 +6,4 @@ use Rattle.text.specs.Typing.{◌types◌}
 use Rattle.text.proofs.put_words.Given as goal
 
 abbrev pub invariant-loop-i : goal.invariant-loop-i
-invariant-loop-i l = (l.i ≤ length l.fields) × (length l.out ≡ length l.initial.out) × (seen l.out l.pos types words (drop l.i l.fields) ≡ seen l.initial.out l.at types words l.fields)
-
-abbrev pub decreases-loop-i : goal.decreases-loop-i
-decreases-loop-i l = length l.fields - l.i
+invariant-loop-i l = (length l.out ≡ length l.initial.out) × (seen l.out l.pos types words (drop l.i l.fields) ≡ seen l.initial.out l.at types words l.fields)

@@ -1,9 +1,6 @@
-use native.Mathlib.Omega.{arith}
-use Rattle.rules.proofs.Ranges.{below, within-top}
+use mathlib.Core.Path.{◌∙◌}
+use Rattle.wire.proofs.Decoding.{contained}
 use Rattle.wire.proofs.sweep_in_range.Goals as goal
 
-pub returns-then-n-eq0 : goal.returns-then-n-eq0
-returns-then-n-eq0 c = rw (below 1 32 c.args.n (omega arith))
-
 pub returns : goal.returns
-returns c = within-top 1 32 _ (omega arith)
+returns c = c.contains.ensures.value ∙ rw (c.new.ensures.start, c.new.ensures.end, c.new.ensures.exhausted) (contained 1 32 c.args.n)

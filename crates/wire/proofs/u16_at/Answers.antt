@@ -1,5 +1,5 @@
-use mathlib.Core.Path.{sym, ap₂, ◌∙◌}
-use Prim.Native.Nat.{ℕ, ◌+◌, ◌*◌}
+use mathlib.Core.Path.{sym}
+use native.Mathlib.Omega.{arith}
 use Rattle.rules.specs.Bytes.{u16_at}
 use Rattle.wire.proofs.Numbers.{u16-past}
 use Rattle.wire.proofs.u16_at.Goals as goal
@@ -9,7 +9,4 @@ returns-then-s-at c = sym (u16-past _ _ c.if-s-at.true)
 
 pub returns : goal.returns
 unfolding u16_at
-returns c =
-    ap₂ (λ (low high : ℕ). low + 256 * high)
-    (c.wide16-low.ensures.0 ∙ c.u8_at.ensures)
-    (c.wide16-high.ensures.0 ∙ c.u8_at-2.ensures)
+returns c = let e = c.from_le_bytes.ensures in let a = c.u8_at.ensures in let b = c.u8_at-2.ensures in omega arith

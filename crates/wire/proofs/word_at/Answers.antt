@@ -1,11 +1,8 @@
-use mathlib.Core.Path.{ap₂, ◌∙◌}
-use Prim.Native.Nat.{ℕ, ◌+◌, ◌*◌}
-use Rattle.rules.specs.Bytes.{u32_at}
+use native.Mathlib.Omega.{arith}
+use Rattle.wire.proofs.Numbers.{u32-bytes}
+use Rattle.rules.specs.Bytes.{u8_at}
 use Rattle.wire.proofs.word_at.Goals as goal
 
 pub returns : goal.returns
-unfolding u32_at
-returns c =
-    ap₂ (λ (low high : ℕ). low + 65536 * high)
-    (c.wide32-low.ensures.0 ∙ c.half_at.ensures)
-    (c.wide32-high.ensures.0 ∙ c.half_at-2.ensures)
+unfolding u8_at
+returns c = let e = c.from_le_bytes.ensures in let f = u32-bytes c.args.s.now c.args.at in omega arith
