@@ -4,9 +4,12 @@ use mathlib.Core.Logic.{◌≢◌, ◌⊎◌, inl, inr}
 use mathlib.Core.List.{List, [], ◌∷◌, ◌++◌}
 use Prim.Native.Nat.{ℕ, suc, ◌+◌, ◌-◌, ◌*◌, ◌≤◌, ◌<◌}
 use native.Mathlib.Omega.{arith}
-use native.Mathlib.Decide.{dec_lt, ℕ_discrete}
-use lib.ListN.{length, get_or, set, length-set}
-use lib.Seq.{ext_get_or, get_or-set_same, get_or-set_other}
+use native.Mathlib.Decide.{dec_lt}
+use lib.ListN.{length, get_or, set, take, drop, length-set, length-drop, get_or-append}
+use lib.Seq.{ext_get_or, get_or-set_same, get_or-set_other, length-take-le}
+use borrow.Rule.Slice.PartMut.{put_mid, same_len_mid}
+use Rattle.std.specs.List.{CopiedTo, SameBelow, SameFrom}
+use Rattle.std.proofs.lemmas.List.{get_or-take, get_or-drop, get_or-append_right as get_or_append_right}
 use Rattle.rules.specs.declared.Generations.{Generations}
 use Rattle.rules.specs.Words.{no_generations, with_generations, with_reached}
 use Rattle.rules.specs.Generation.{generations_of, one_more, counted}
@@ -83,27 +86,6 @@ pub record Written (f : ℕ → ℕ) (first next : ℕ) (a b : List ℕ) : Type 
   pub here : (k : ℕ) → first ≤ k → k < next → get_or b k 0 ≡ f k
   pub rest : (k : ℕ) → (k < first) ⊎ (next ≤ k) → get_or b k 0 ≡ get_or a k 0
 
-pub written-first : (f : ℕ → ℕ) (first next : ℕ) (a : List ℕ) → length a ≡ size → next ≤ first → Written f first next a a
-written-first f first next a n le = record { long = n; here = λ k p q. absurd (omega arith); rest = λ k h. refl }
-
-pub written_next : (f : ℕ → ℕ) (first i j : ℕ) (a b : List ℕ) (x : ℕ) → Written f first i a b → first ≤ i → i < size → j ≡ i + 1 → x ≡ f i → Written f first j a (set b i x)
-written_next f first i j a b x m le lt is e = record {
-  long = length-set b i x ∙ m.long;
-  here = λ k p q. elim (ℕ_discrete k i) [
-    | yes h ↦ ap (λ (y : ℕ). get_or (set b i x) y 0) h ∙ get_or-set_same b i x 0 (omega (arith, m.long)) ∙ e ∙ sym (ap f h)
-    | no h ↦ get_or-set_other b i k x 0 h ∙ m.here k p (omega arith)
-  ];
-  rest = λ k h. get_or-set_other b i k x 0 (apart k h) ∙ m.rest k (fewer k h);
-}
-  where
-    apart : (k : ℕ) → (k < first) ⊎ (j ≤ k) → k ≢ i
-    apart k (inl h) q = omega arith
-    apart k (inr h) q = omega arith
-
-    fewer : (k : ℕ) → (k < first) ⊎ (j ≤ k) → (k < first) ⊎ (i ≤ k)
-    fewer k (inl h) = inl h
-    fewer k (inr h) = inr (omega arith)
-
 written-outside : (f : ℕ → ℕ) (s : ℕ) (a b : List ℕ) → Written f (20 * s + generation_messages_at) (20 * s + generation_next_at) a b → Outside
     (20 * s + generation_messages_at) (20 * s + generation_next_at) a b
 written-outside f s a b m = record { same = m.rest }
@@ -128,19 +110,32 @@ written-set f s a b l h m e = (
 abbrev pub list_from : (first : ℕ) → List ℕ → ℕ → ℕ
 list_from first l k = get_or l (k - first) 0
 
-pub put_next : (s k : ℕ) (l a b : List ℕ) → Written (list_from (20 * s + generation_messages_at) l) (20 * s + generation_messages_at) (20 * s + k + generation_messages_at) a b → s < 8 → k < 20 →
-    Written (list_from (20 * s + generation_messages_at) l) (20 * s + generation_messages_at) (20 * s + (k + 1) + generation_messages_at) a (set b (20 * s + k + generation_messages_at) (get_or l k 0))
-put_next s k l a b m h w =
-    written_next (list_from (20 * s + generation_messages_at) l) (20 * s + generation_messages_at) (20 * s + k + generation_messages_at)
-    (20 * s + (k + 1) + generation_messages_at) a b (get_or l k 0) m (omega arith) (omega arith) (omega arith)
-    (ap (λ (j : ℕ). get_or l j 0) (omega arith))
+-- twenty numbers copied over those of a part, of k of them
+part-written : (first next k : ℕ) (a l : List ℕ) → length a ≡ size → k ≡ 20 → length l ≡ 20 → next ≡ first + 20 → next ≤ size → Written (list_from first l) first next a (put_mid first k a l)
+part-written first next k a l n e w z h = record {
+  long = same_len_mid first k a l (omega (arith, n, w, length-take-le k (drop first a) (omega (arith, n, length-drop first a)))) ∙ n;
+  here = λ j p q. get_or_append_right (take first a) (l ++ drop k (drop first a)) first j 0 front p ∙ get_or-append l (drop k (drop first a)) 0 (j - first) (omega (arith, w));
+  rest = others;
+}
+  where
+    front : length (take first a) ≡ first
+    front = length-take-le first a (omega (arith, n))
 
-pub put-generations : (s k : ℕ) (a b : List ℕ) (g : Generations) → s < 8 → length g.messages ≡ 20 → k ≡ 20 →
-    Written (list_from (20 * s + generation_messages_at) g.messages) (20 * s + generation_messages_at) (20 * s + k + generation_messages_at) a b →
-    (venue_of b ≡ with_generations (venue_of a) (set (venue_of a).generations s g)) × SameCounts a b
-put-generations s k a b g h n e m =
-    let z : 20 * s + k + generation_messages_at ≡ 20 * s + generation_next_at = omega arith in
-    written-set f s a b g.messages h (rw z at m) whole-list
+    others : (j : ℕ) → (j < first) ⊎ (next ≤ j) → get_or (put_mid first k a l) j 0 ≡ get_or a j 0
+    others j (inl q) = get_or-append (take first a) (l ++ drop k (drop first a)) 0 j (omega (arith, front)) ∙ get_or-take first a j 0 q
+    others j (inr q) =
+        let there : first + (k + (j - first - 20)) ≡ j = omega arith in
+        get_or_append_right (take first a) (l ++ drop k (drop first a)) first j 0 front (omega arith)
+        ∙ get_or_append_right l (drop k (drop first a)) 20 (j - first) 0 w (omega arith)
+        ∙ get_or-drop k (drop first a) (j - first - 20) 0
+        ∙ get_or-drop first a (k + (j - first - 20)) 0
+        ∙ ap (λ (x : ℕ). get_or a x 0) there
+
+pub put-generations : (s k : ℕ) (a l : List ℕ) (g : Generations) → length a ≡ size → s < 8 → length g.messages ≡ 20 → k ≡ 20 → l ≡ g.messages →
+    (venue_of (put_mid (20 * s + generation_messages_at) k a l) ≡ with_generations (venue_of a) (set (venue_of a).generations s g))
+    × SameCounts a (put_mid (20 * s + generation_messages_at) k a l)
+put-generations s k a l g long h n e p =
+    rw p (written-set f s a _ g.messages h (part-written (20 * s + generation_messages_at) (20 * s + generation_next_at) k a g.messages long e n (omega arith) (omega arith)) whole-list)
   where
     f : ℕ → ℕ
     f = list_from (20 * s + generation_messages_at) g.messages
@@ -192,6 +187,19 @@ count-here s number k a b h e m = written-set (λ j. get_or c j 0) s a c _ h all
         ∙ ap₂ (λ (l : List ℕ) (x : ℕ). l ++ (x ∷ [])) (upto-along (λ j. get_or c j 0) (λ j. get_or a j 0) (20 * s + generation_messages_at) (suc (20 * s + generation_messages_at)) 19 moved) last
         ∙ sym (ap (λ (g : Generations). one_more number g.messages) (generations-at a s h))
 
-pub count-generation : (s number first last k : ℕ) (a b : List ℕ) → s < 8 → first ≡ 20 * s + generation_messages_at → last ≡ 20 * s + generation_newest_at → k ≡ last → Written (after a) first k a b →
+pub count-generation : (s number first last i k : ℕ) (a b : List ℕ) → length b ≡ size → s < 8 → first ≡ 20 * s + generation_messages_at →
+    last ≡ 20 * s + generation_newest_at → i ≡ first + 1 → first + k ≡ last →
+    CopiedTo a b i first k × SameBelow a b first × SameFrom a b (first + k) →
     (venue_of (set b last number) ≡ counted number s (venue_of a)) × SameCounts a (set b last number)
-count-generation s number first last k a b h p q e m = rw q (count-here s number k a b h (e ∙ q) (rw p at m))
+count-generation s number first last i k a b n h p q e z m = rw q (count-here s number last a b h q (rw p at moved))
+  where
+    others : (j : ℕ) → (j < first) ⊎ (last ≤ j) → get_or b j 0 ≡ get_or a j 0
+    others j (inl w) = m.1 j 0 w
+    others j (inr w) = m.2 j 0 (omega arith)
+
+    moved : Written (after a) first last a b
+    moved = record {
+      long = n;
+      here = λ j v w. let t : i + (j - first) ≡ j + 1 = omega arith in m.0 j 0 v (omega arith) ∙ ap (λ (x : ℕ). get_or a x 0) t;
+      rest = others;
+    }

@@ -34,11 +34,7 @@ fn lower(numbers: &mut Numbers, at: usize, i: usize)
     requires { (at < length numbers.old) × (i < 4294967296) }
     ensures { numbers.new ≡ set numbers.old at (min (get_or numbers.old at 0) i) }
 {
-    let x = numbers[at];
-    if places::wide(x) < i {
-        return;
-    }
-    numbers[at] = i as u32;
+    numbers[at] = numbers[at].min(i as u32);
 }
 
 // The order at place i is filled for k contracts. The levels stay as they are. What is left of an order with reserve has to show again.
@@ -77,7 +73,7 @@ pub fn fill_complex(numbers: &mut Numbers, i: usize, k: u32)
 fn place_number(series: u8, side: u8) -> u32
     ensures { result ≡ place_of series side }
 {
-    2 * (series as u32) + (side as u32)
+    2 * u32::from(series) + u32::from(side)
 }
 
 // An order's numbers at place i.
@@ -112,11 +108,9 @@ pub fn show_again(numbers: &mut Numbers)
     ensures beside { SameBeside numbers.old numbers.new }
 {
     let n = places::regulars_used(numbers);
-    let mut i: usize = 0;
-    while i < n {
+    for i in 0..n {
         let o = places::regular_at(numbers, i);
         numbers[2 * i + places::REGULAR_RESERVE_AT] = arithmetic::less(o.quantity, o.display);
-        i += 1;
     }
     numbers[places::SHOW_AGAIN_AT] = 0;
 }
@@ -138,8 +132,8 @@ pub fn write_complex(numbers: &mut Numbers, i: usize, c: Complex)
     let limit = limit_number(c.limit);
     numbers[6 * i + places::COMPLEX_ID_AT] = c.id;
     numbers[6 * i + places::COMPLEX_LEGS_AT] = 16 * one + two;
-    numbers[6 * i + places::COMPLEX_RATIOS_AT] = 256 * (c.ratio1 as u32) + (c.ratio2 as u32);
-    numbers[6 * i + places::COMPLEX_CLASS_AT] = c.class as u32;
+    numbers[6 * i + places::COMPLEX_RATIOS_AT] = 256 * u32::from(c.ratio1) + u32::from(c.ratio2);
+    numbers[6 * i + places::COMPLEX_CLASS_AT] = u32::from(c.class);
     numbers[6 * i + places::COMPLEX_LIMIT_AT] = limit;
     numbers[6 * i + places::COMPLEX_QUANTITY_AT] = c.quantity;
 }
@@ -187,7 +181,7 @@ pub fn put_listed(numbers: &mut Numbers, s: usize, x: Listed)
     ensures numbers_after { venue_of numbers.new ≡ with_series (venue_of numbers.old) (set (venue_of numbers.old).series s x) }
     ensures counts { SameCounts numbers.old numbers.new }
 {
-    numbers[3 * s + places::SERIES_STATUS_AT] = x.status as u32;
+    numbers[3 * s + places::SERIES_STATUS_AT] = u32::from(x.status);
     numbers[3 * s + places::SERIES_BID_AT] = x.bid;
     numbers[3 * s + places::SERIES_OFFER_AT] = x.offer;
 }
@@ -199,8 +193,8 @@ pub fn write_edition(numbers: &mut Numbers, i: usize, e: Edition)
 {
     numbers[4 * i + places::EDITION_NUMBER_AT] = e.edition;
     numbers[4 * i + places::EDITION_MESSAGE_AT] = e.message;
-    numbers[4 * i + places::EDITION_FIGURE_AT] = e.figure as u32;
-    numbers[4 * i + places::EDITION_VALUE_AT] = e.value as u32;
+    numbers[4 * i + places::EDITION_FIGURE_AT] = u32::from(e.figure);
+    numbers[4 * i + places::EDITION_VALUE_AT] = u32::from(e.value);
 }
 
 // The figures of edition 0. This function is compiled by itself: an archive has it once, and keeps no constants for it.
@@ -208,11 +202,9 @@ pub fn write_edition(numbers: &mut Numbers, i: usize, e: Edition)
 pub fn base_figures(numbers: &mut Numbers)
     ensures { FiguresBase numbers.old numbers.new }
 {
-    let mut f: u8 = 0;
-    while f < 9 {
+    for f in 0..9u8 {
         let x = arithmetic::base_figure(f);
-        numbers[2 * (f as usize) + places::FIGURES_AT] = x as u32;
-        f += 1;
+        numbers[2 * usize::from(f) + places::FIGURES_AT] = u32::from(x);
     }
 }
 
@@ -226,8 +218,8 @@ fn set_figure(numbers: &mut Numbers, e: Edition)
     if 8 < e.figure {
         return;
     }
-    let f = e.figure as usize;
-    numbers[2 * f + places::FIGURES_AT] = e.value as u32;
+    let f = usize::from(e.figure);
+    numbers[2 * f + places::FIGURES_AT] = u32::from(e.value);
 }
 
 // The figures in force: those of edition 0, and then those of each edition in turn.
@@ -235,11 +227,9 @@ pub fn count_figures(numbers: &mut Numbers)
     ensures { FiguresCounted numbers.old numbers.new }
 {
     base_figures(numbers);
-    let mut i: usize = 0;
-    while i < 32 {
+    for i in 0..32 {
         let e = places::edition_at(numbers, i);
         set_figure(numbers, e);
-        i += 1;
     }
 }
 
@@ -267,12 +257,8 @@ pub fn put_generations(numbers: &mut Numbers, s: usize, g: Generations)
     ensures numbers_after { venue_of numbers.new ≡ with_generations (venue_of numbers.old) (set (venue_of numbers.old).generations s g) }
     ensures counts { SameCounts numbers.old numbers.new }
 {
-    let messages = g.messages;
-    let mut k: usize = 0;
-    while k < 20 {
-        numbers[20 * s + k + places::GENERATION_MESSAGES_AT] = messages[k];
-        k += 1;
-    }
+    let first = 20 * s + places::GENERATION_MESSAGES_AT;
+    numbers[first..first + 20].copy_from_slice(&g.messages);
 }
 
 // One generation more of a series, by the message of this number; the oldest is forgotten.
@@ -283,11 +269,7 @@ pub fn count_generation(numbers: &mut Numbers, s: usize, number: u32)
 {
     let first = 20 * s + places::GENERATION_MESSAGES_AT;
     let last = first + 19;
-    let mut k = first;
-    while k < last {
-        numbers[k] = numbers[k + 1];
-        k += 1;
-    }
+    numbers.copy_within(first + 1..last + 1, first);
     numbers[last] = number;
 }
 
@@ -304,12 +286,11 @@ fn held_regulars(numbers: &Numbers, n: usize) -> usize
     requires { CountedRegulars numbers.now n }
     ensures { (result ≤ n) × Filled holds_regular (regular_in numbers.now) result }
 {
-    let mut i = places::at_most(places::wide(numbers[places::REGULARS_KNOWN_AT]), n);
-    while i < n {
+    let known = (numbers[places::REGULARS_KNOWN_AT] as usize).min(n);
+    for i in known..n {
         if numbers[4 * i + places::REGULAR_QUANTITY_AT] == 0 {
             return i;
         }
-        i += 1;
     }
     n
 }
@@ -325,10 +306,8 @@ pub fn close_regulars(numbers: &mut Numbers)
         numbers[places::REGULARS_KNOWN_AT] = n as u32;
         return;
     }
-    let mut i = j;
-    while i < n {
+    for i in j..n {
         let o = places::regular_at(numbers, i);
-        i += 1;
         if o.quantity == 0 {
             continue;
         }
@@ -344,12 +323,11 @@ fn held_complexes(numbers: &Numbers, n: usize) -> usize
     requires { CountedComplexes numbers.now n }
     ensures { (result ≤ n) × Filled holds_complex (complex_in numbers.now) result }
 {
-    let mut i = places::at_most(places::wide(numbers[places::COMPLEXES_KNOWN_AT]), n);
-    while i < n {
+    let known = (numbers[places::COMPLEXES_KNOWN_AT] as usize).min(n);
+    for i in known..n {
         if numbers[6 * i + places::COMPLEX_QUANTITY_AT] == 0 {
             return i;
         }
-        i += 1;
     }
     n
 }
@@ -365,10 +343,8 @@ pub fn close_complexes(numbers: &mut Numbers)
         numbers[places::COMPLEXES_KNOWN_AT] = n as u32;
         return;
     }
-    let mut i = j;
-    while i < n {
+    for i in j..n {
         let o = places::complex_at(numbers, i);
-        i += 1;
         if o.quantity == 0 {
             continue;
         }

@@ -2,12 +2,12 @@
 // read and write places, and speak of the venue that the numbers stand for.
 #![tactic(auto)]
 
-ghost use Rattle.std.specs.Prelude.{◌≡◌, min, ◌+◌, ◌*◌, ◌-◌, ◌≤◌, pos, ◌-ℤ◌, length, get_or, replicate, ◌<◌};
-ghost use Rattle.rules.specs.Words.{no_regular};
+ghost use Rattle.std.specs.Prelude.{◌≡◌, ℕ, List, min, ◌+◌, ◌*◌, ◌-◌, ◌≤◌, pos, ◌-ℤ◌, length, get_or, replicate, ◌<◌};
+ghost use Rattle.rules.specs.Words.{no_regular, no_complex, no_legging, not_listed, no_edition, no_generations};
 ghost use Rattle.rules.specs.Settings.{figure_now, free_edition};
 ghost use Rattle.rules.specs.Generation.{generations_of};
 ghost use Rattle.rules.specs.Step.{mask};
-ghost use Rattle.places.specs.Layout.{size, regulars_used, complexes_used, regular_in, complex_in, legging_in, listed_in, edition_in, generations_in, level_in, regular_key, cross_key, venue_of, Right};
+ghost use Rattle.places.specs.Layout.{size, regulars_used, complexes_used, regular_in, complex_in, legging_in, listed_in, edition_in, generations_in, in_use, level_in, regular_key, cross_key, venue_of, Right};
 ghost use Rattle.places.specs.Layout.{facing_key};
 ghost use Rattle.places.specs.Layout.{none_shows_again};
 ghost use Rattle.places.specs.Requirements.{FigureReady, GenerationReady};
@@ -114,35 +114,18 @@ pub struct Level {
     pub size: u64,
 }
 
-// A number of the slice as an index.
-pub fn wide(x: u32) -> usize
-    ensures { result ≡ x }
-{
-    x as usize
-}
-
-// x, but at most n.
-pub fn at_most(x: usize, n: usize) -> usize
-    ensures { result ≡ min x n }
-{
-    if x < n {
-        return x;
-    }
-    n
-}
-
 // The regular places in use.
 pub fn regulars_used(numbers: &Numbers) -> usize
     ensures { (result ≡ regulars_used numbers.now) × (result ≤ 128) }
 {
-    at_most(wide(numbers[REGULARS_USED_AT]), 128)
+    (numbers[REGULARS_USED_AT] as usize).min(128)
 }
 
 // The complex places in use.
 pub fn complexes_used(numbers: &Numbers) -> usize
     ensures { (result ≡ complexes_used numbers.now) × (result ≤ 32) }
 {
-    at_most(wide(numbers[COMPLEXES_USED_AT]), 32)
+    (numbers[COMPLEXES_USED_AT] as usize).min(32)
 }
 
 // What stands at a regular place.
@@ -178,7 +161,7 @@ pub fn key_at(numbers: &Numbers, i: usize) -> usize
     requires { i < 128 }
     ensures { result ≡ regular_key (regular_in numbers.now i) }
 {
-    wide(numbers[4 * i + REGULAR_KEY_AT] % 16)
+    (numbers[4 * i + REGULAR_KEY_AT] % 16) as usize
 }
 
 // What stands at a legging place.
@@ -221,16 +204,14 @@ pub fn edition_at(numbers: &Numbers, i: usize) -> Edition
     }
 }
 
-// The first place of the editions that is free; 32 where all are held.
+// The first place of the editions that is free; 32 where all are held, since the definition `free_edition` says 32.
 pub fn free_edition(numbers: &Numbers) -> usize
     ensures { result ≡ free_edition (venue_of numbers.now) }
 {
-    let mut i: usize = 0;
-    while i < 32 {
+    for i in 0..32 {
         if numbers[4 * i + EDITION_NUMBER_AT] == 0 {
             return i;
         }
-        i += 1;
     }
     32
 }
@@ -293,8 +274,8 @@ pub fn cross_key_at(numbers: &Numbers, i: usize) -> usize
     requires { i < 32 }
     ensures { result ≡ cross_key (complex_in numbers.now i) }
 {
-    let legs = wide(numbers[6 * i + COMPLEX_LEGS_AT] % 256);
-    let ratios = wide(numbers[6 * i + COMPLEX_RATIOS_AT] % 65536);
+    let legs = (numbers[6 * i + COMPLEX_LEGS_AT] % 256) as usize;
+    let ratios = (numbers[6 * i + COMPLEX_RATIOS_AT] % 65536) as usize;
     256 * ratios + legs
 }
 
@@ -304,7 +285,7 @@ pub fn facing_key(s: u8, d: u8, q: u8, t: u8, e: u8, r: u8) -> usize
 {
     let one = arithmetic::place_of(s, arithmetic::opposite_of(d));
     let two = arithmetic::place_of(t, arithmetic::opposite_of(e));
-    let ratios = 256 * (q as usize) + (r as usize);
+    let ratios = 256 * usize::from(q) + usize::from(r);
     256 * ratios + (16 * one + two)
 }
 
@@ -358,111 +339,114 @@ pub fn level_at(numbers: &Numbers, n: usize) -> Level
     }
 }
 
-// The venue anew, part by part ----------------------------------------------------------------
+// The venue anew, table by table --------------------------------------------------------------
 
-// The regular orders, place by place, in the places of a table that is free. They are most of a venue: the venue's own table is filled, and no second one
-// stands on the stack.
-fn read_regulars(r: &mut [Regular; 128], numbers: &Numbers)
-    requires { r.old ≡ replicate 128 no_regular }
-    ensures { r.new ≡ (venue_of numbers.now).regular }
-{
-    let n = regulars_used(numbers);
-    let mut i: usize = 0;
-    while i < n {
-        let x = regular_at(numbers, i);
-        r[i] = x;
-        i += 1;
+// What stands in a table of a venue, place by place.
+trait Row {
+    // What stands at place `i` of the numbers.
+    ghost row_of: { List ℕ → ℕ → Self };
+
+    // How many places the table has.
+    ghost many: { ℕ };
+
+    // What stands at a place that is free.
+    ghost free: { Self };
+
+    fn read(numbers: &Numbers, i: usize) -> Self
+        requires { i < many }
+        ensures { result ≡ row_of numbers.now i };
+}
+
+impl Row for Regular {
+    ghost row_of = { regular_in };
+
+    ghost many = { 128 };
+
+    ghost free = { no_regular };
+
+    // A regular order, of its place.
+    fn read(numbers: &Numbers, i: usize) -> Regular {
+        regular_at(numbers, i)
     }
 }
 
-// The complex orders, place by place.
-fn complexes_of(numbers: &Numbers) -> [Complex; 32]
-    ensures { result ≡ (venue_of numbers.now).complex }
-{
-    let free = rules::NO_COMPLEX;
-    let mut r = [free; 32];
-    let n = complexes_used(numbers);
-    let mut i: usize = 0;
-    while i < n {
-        let x = complex_at(numbers, i);
-        r[i] = x;
-        i += 1;
+impl Row for Complex {
+    ghost row_of = { complex_in };
+
+    ghost many = { 32 };
+
+    ghost free = { no_complex };
+
+    // A complex order, of its place.
+    fn read(numbers: &Numbers, i: usize) -> Complex {
+        complex_at(numbers, i)
     }
-    r
 }
 
-// The legging orders, place by place.
-fn leggings_of(numbers: &Numbers) -> [Legging; 16]
-    ensures { result ≡ (venue_of numbers.now).legging }
-{
-    let free = rules::NO_LEGGING;
-    let mut r = [free; 16];
-    let mut i: usize = 0;
-    while i < 16 {
-        let x = legging_at(numbers, i);
-        r[i] = x;
-        i += 1;
+impl Row for Legging {
+    ghost row_of = { legging_in };
+
+    ghost many = { 16 };
+
+    ghost free = { no_legging };
+
+    // A legging order, of its place.
+    fn read(numbers: &Numbers, i: usize) -> Legging {
+        legging_at(numbers, i)
     }
-    r
 }
 
-// The status and away prices of every series.
-fn series_of(numbers: &Numbers) -> [Listed; 8]
-    ensures { result ≡ (venue_of numbers.now).series }
-{
-    let free = rules::NOT_LISTED;
-    let mut r = [free; 8];
-    let mut i: usize = 0;
-    while i < 8 {
-        let x = listed_at(numbers, i);
-        r[i] = x;
-        i += 1;
+impl Row for Listed {
+    ghost row_of = { listed_in };
+
+    ghost many = { 8 };
+
+    ghost free = { not_listed };
+
+    // A series' status and away prices, of their place.
+    fn read(numbers: &Numbers, i: usize) -> Listed {
+        listed_at(numbers, i)
     }
-    r
 }
 
-// The editions, place by place.
-fn editions_of(numbers: &Numbers) -> [Edition; 32]
-    ensures { result ≡ (venue_of numbers.now).editions }
-{
-    let free = rules::NO_EDITION;
-    let mut r = [free; 32];
-    let mut i: usize = 0;
-    while i < 32 {
-        let x = edition_at(numbers, i);
-        r[i] = x;
-        i += 1;
+impl Row for Edition {
+    ghost row_of = { edition_in };
+
+    ghost many = { 32 };
+
+    ghost free = { no_edition };
+
+    // An edition, of its place.
+    fn read(numbers: &Numbers, i: usize) -> Edition {
+        edition_at(numbers, i)
     }
-    r
 }
 
-// The messages of a series' last 20 generations.
-fn generations_at(numbers: &Numbers, s: usize) -> Generations
-    requires { s < 8 }
-    ensures { result ≡ generations_in numbers.now s }
-{
-    let mut messages = [0u32; 20];
-    let mut k: usize = 0;
-    while k < 20 {
-        messages[k] = numbers[20 * s + k + GENERATION_MESSAGES_AT];
-        k += 1;
+impl Row for Generations {
+    ghost row_of = { generations_in };
+
+    ghost many = { 8 };
+
+    ghost free = { no_generations };
+
+    // A series' last 20 generations, of their place.
+    fn read(numbers: &Numbers, i: usize) -> Generations {
+        let first = 20 * i + GENERATION_MESSAGES_AT;
+        let mut messages = [0u32; 20];
+        messages.copy_from_slice(&numbers[first..first + 20]);
+        Generations { messages }
     }
-    Generations { messages }
 }
 
-// The messages of every series' last 20 generations.
-fn generations_of(numbers: &Numbers) -> [Generations; 8]
-    ensures { result ≡ (venue_of numbers.now).generations }
+// The first `n` places of a table that is free. The venue's own table is filled, and no second one stands on the stack.
+fn read_table<T: Row + Drop>(table: &mut [T], numbers: &Numbers, n: usize)
+    requires some { n ≤ T.many }
+    requires free { table.old ≡ replicate T.many T.free }
+    ensures { table.new ≡ in_use (T.row_of numbers.now) T.free n T.many }
 {
-    let none = rules::NO_GENERATIONS;
-    let mut r = [none; 8];
-    let mut i: usize = 0;
-    while i < 8 {
-        let x = generations_at(numbers, i);
-        r[i] = x;
-        i += 1;
+    for i in 0..n {
+        table[i] = T::read(numbers, i);
     }
-    r
 }
 
 // The venue that the numbers stand for. This function is compiled by itself: the stack that its tables take is free again when it returns.
@@ -470,23 +454,21 @@ fn generations_of(numbers: &Numbers) -> [Generations; 8]
 pub fn venue_of(numbers: &Numbers) -> Venue
     ensures { result ≡ venue_of numbers.now }
 {
-    let complex = complexes_of(numbers);
-    let legging = leggings_of(numbers);
-    let series = series_of(numbers);
-    let editions = editions_of(numbers);
-    let generations = generations_of(numbers);
-    let last = last_id(numbers);
-    let reached = reached_id(numbers);
     let mut v = Venue {
         regular: [rules::NO_REGULAR; 128],
-        complex,
-        legging,
-        series,
-        editions,
-        generations,
-        last,
-        reached,
+        complex: [rules::NO_COMPLEX; 32],
+        legging: [rules::NO_LEGGING; 16],
+        series: [rules::NOT_LISTED; 8],
+        editions: [rules::NO_EDITION; 32],
+        generations: [rules::NO_GENERATIONS; 8],
+        last: last_id(numbers),
+        reached: reached_id(numbers),
     };
-    read_regulars(&mut v.regular, numbers);
+    read_table(&mut v.regular, numbers, regulars_used(numbers));
+    read_table(&mut v.complex, numbers, complexes_used(numbers));
+    read_table(&mut v.legging, numbers, 16);
+    read_table(&mut v.series, numbers, 8);
+    read_table(&mut v.editions, numbers, 32);
+    read_table(&mut v.generations, numbers, 8);
     v
 }

@@ -1,4 +1,3 @@
-use Prim.Native.Nat.{◌-◌, ◌≤◌}
 use mathlib.Core.Path.{◌≡◌}
 use lib.ListN.{length}
 use Rattle.places.specs.Layout.{size}
@@ -6,7 +5,4 @@ use Rattle.place_writes.proofs.Figures.{Counting}
 use Rattle.place_writes.proofs.count_figures.Given as goal
 
 abbrev pub invariant-loop-i : goal.invariant-loop-i
-invariant-loop-i l = (l.i ≤ 32) × (length l.numbers ≡ size) × Counting l.initial.numbers l.numbers l.i
-
-abbrev pub decreases-loop-i : goal.decreases-loop-i
-decreases-loop-i l = 32 - l.i
+invariant-loop-i l = (length l.numbers ≡ size) × Counting l.initial.numbers l.numbers l.i

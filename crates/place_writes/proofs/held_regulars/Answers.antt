@@ -9,7 +9,7 @@ use Rattle.places.proofs.Free.{filled_more}
 use Rattle.place_writes.proofs.held_regulars.Goals as goal
 
 pub loop-i-init : goal.loop-i-init
-loop-i-init c = (omega arith, λ k w. c.requires.marked.regulars k (omega arith))
+loop-i-init c = λ k w. c.requires.marked.regulars k (omega arith)
 
 pub overflow_mul-i : goal.overflow_mul-i
 unfolding regulars_used
@@ -28,11 +28,11 @@ unfolding regulars_used
 bounds-numbers-i c = omega arith
 
 pub returns-then-numbers-i-eq0 : goal.returns-then-numbers-i-eq0
-returns-then-numbers-i-eq0 c = c.loop-i.invariant
+returns-then-numbers-i-eq0 c = (omega arith, c.loop-i.invariant)
 
 pub loop-i-preserved : goal.loop-i-preserved
 unfolding regular_in
-loop-i-preserved c = (omega arith, filled_more holds_regular (regular_in c.args.numbers.now) c.loop-i.i c.loop-i.invariant.1 (ap not (ne_eqb _ _ c.if-numbers-i-eq0.false)))
+loop-i-preserved c = filled_more holds_regular (regular_in c.args.numbers.now) c.loop-i.i c.loop-i.invariant (ap not (ne_eqb _ _ c.if-numbers-i-eq0.false))
 
 pub returns : goal.returns
-returns c = (omega arith, λ k w. c.loop-i.invariant.1 k (omega arith))
+returns c = (omega arith, λ k w. c.loop-i.invariant k (omega arith))

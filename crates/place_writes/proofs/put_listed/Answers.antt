@@ -14,4 +14,4 @@ returns c = let n = c.args.s in
     let p1 : 3 * n + series_bid_at ≡ suc (3 * n + series_status_at) = omega arith in
     let p2 : 3 * n + series_offer_at ≡ suc (suc (3 * n + series_status_at)) = omega arith in
     let x = c.args.x in
-    record { numbers_after = rw (p1, p2) (put-listed c.args.numbers.now n x c.told-numbers c.requires c.struct_known-1.given.0.fits); counts = rw (p1, p2) (counts-kept (sets-outside c.args.numbers.now (3 * n + series_status_at) (x.status ∷ x.bid ∷ x.offer ∷ [])) (omega arith) (omega arith) (inr (omega arith))) }
+    record { numbers_after = rw (p1, p2, c.from.ensures) (put-listed c.args.numbers.now n x c.told-numbers c.requires (omega arith)); counts = rw (p1, p2, c.from.ensures) (counts-kept (sets-outside c.args.numbers.now (3 * n + series_status_at) (x.status ∷ x.bid ∷ x.offer ∷ [])) (omega arith) (omega arith) (inr (omega arith))) }

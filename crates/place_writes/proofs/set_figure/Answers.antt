@@ -13,5 +13,5 @@ pub returns-then-e-gt8 : goal.returns-then-e-gt8
 returns-then-e-gt8 c = past-set _ _ c.if-e-gt8.true
 
 pub returns : goal.returns
-returns c = figure-set _ _ c.told-numbers
-    (ap not (ne_eqb _ _ c.if-e-eq0.false)) (omega arith) c.struct_known-4-1.given.1.1.1.0.fits
+returns c = rw (c.from-f.ensures, c.from.ensures) (figure-set _ _ c.told-numbers
+    (ap not (ne_eqb _ _ c.if-e-eq0.false)) (omega arith) (omega arith))

@@ -8,14 +8,14 @@ each : {A B : Type 0} → A × B → record { numbers_after : A; beside : B }
 each h = record { numbers_after = h.0; beside = h.1 }
 
 pub loop-i-init : goal.loop-i-init
-loop-i-init c = (omega arith, c.told-numbers, again-start _ c.told-numbers)
+loop-i-init c = (c.told-numbers, again-start _ c.told-numbers)
 
 pub regular_at-o-requires : goal.regular_at-o-requires
 regular_at-o-requires c = omega arith
 
 pub loop-i-preserved : goal.loop-i-preserved
-loop-i-preserved c = let m = again-next _ _ _ c.regular_at-o.result _ c.loop-i.invariant.2 (omega arith)
-    c.regular_at-o.ensures c.less.ensures in (omega arith, m.long, m)
+loop-i-preserved c = let m = again-next _ _ _ c.regular_at-o.result _ c.loop-i.invariant.1 (omega arith)
+    c.regular_at-o.ensures c.less.ensures in (m.long, m)
 
 pub returns : goal.returns
-returns c = each (again-end _ _ _ _ c.loop-i.invariant.2 c.regulars_used-n.ensures.0 (omega arith))
+returns c = each (again-end _ _ _ _ c.loop-i.invariant.1 c.regulars_used-n.ensures.0 (omega arith))

@@ -28,8 +28,7 @@ returns c =
     let p3 : 6 * a.i + complex_class_at ≡ suc (suc (suc (6 * a.i + complex_id_at))) = omega arith in
     let p4 : 6 * a.i + complex_limit_at ≡ suc (suc (suc (suc (6 * a.i + complex_id_at)))) = omega arith in
     let p5 : 6 * a.i + complex_quantity_at ≡ suc (suc (suc (suc (suc (6 * a.i + complex_id_at))))) = omega arith in
-    let f : SFits w32 a.c.limit = record { sfits = c.struct_told-1.given.1.1.1.1.1.1.0.1 } in
-    let fits = c.struct_known-3-1.given.1.1.1.1.1 in (
-      rw (p1, p2, p3, p4, p5, c.place_number-one.ensures, c.place_number-two.ensures, c.limit_number-limit.ensures ∙ ap limit_number (back32 f)) refl,
-      record { class = fits.0.fits; limit = limit-back f; ratio1 = fits.1.1.1.0.fits; ratio2 = fits.1.1.1.1.0.fits },
+    let f : SFits w32 a.c.limit = record { sfits = c.struct_told-1.given.1.1.1.1.1.1.0.1 } in (
+      rw (p1, p2, p3, p4, p5, c.from.ensures, c.from-2.ensures, c.from-3.ensures, c.place_number-one.ensures, c.place_number-two.ensures, c.limit_number-limit.ensures ∙ ap limit_number (back32 f)) refl,
+      record { class = omega arith; limit = limit-back f; ratio1 = omega arith; ratio2 = omega arith },
     )

@@ -12,7 +12,7 @@ returns c = let i = c.args.i in
     let p1 : 4 * i + edition_message_at ≡ suc (4 * i + edition_number_at) = omega arith in
     let p2 : 4 * i + edition_figure_at ≡ suc (suc (4 * i + edition_number_at)) = omega arith in
     let p3 : 4 * i + edition_value_at ≡ suc (suc (suc (4 * i + edition_number_at))) = omega arith in (
-      rw (p1, p2, p3) refl,
-      c.struct_known-2-1.given.1.1.0.fits,
-      c.struct_known-2-1.given.1.1.1.0.fits,
+      rw (p1, p2, p3, c.from.ensures, c.from-2.ensures) refl,
+      omega arith,
+      omega arith,
     )

@@ -1,10 +1,6 @@
-use Prim.Native.Nat.{◌-◌, ◌≤◌}
 use Rattle.rules.specs.Places.{holds_edition}
 use Rattle.places.specs.Layout.{edition_in, Filled}
 use Rattle.places.proofs.free_edition.Given as goal
 
 abbrev pub invariant-loop-i : goal.invariant-loop-i
-invariant-loop-i l = (l.i ≤ 32) × Filled holds_edition (edition_in l.numbers) l.i
-
-abbrev pub decreases-loop-i : goal.decreases-loop-i
-decreases-loop-i l = 32 - l.i
+invariant-loop-i l = Filled holds_edition (edition_in l.numbers) l.i
