@@ -1,7 +1,7 @@
 -- Loading a venue: its books row by row to the first free place, its other parts place by place.
 use mathlib.Core.Path.{◌≡◌, refl, sym, ap, subst, ◌∙◌}
 use mathlib.Core.Bool.{Bool, true, false, ◌&&◌, true≢false}
-use mathlib.Core.Logic.{◌⊎◌, inl, inr}
+use mathlib.Core.Logic.{inl, inr}
 use mathlib.Core.List.{List, [], ◌∷◌, ◌++◌}
 use Prim.Native.Nat.{ℕ, ◌+◌, ◌*◌, ◌≤◌, ◌<◌}
 use native.Mathlib.Omega.{arith}
@@ -13,11 +13,9 @@ use lib.ListN.{length, get_or, set, take, length-set, get_or-eq_default}
 use lib.Seq.{sets, get_or-set_same, ext_get_or, take-suc, take-suc-set, take_all}
 use Rattle.rules.specs.declared.Regular.{Regular}
 use Rattle.rules.specs.declared.Complex.{Complex}
-use Rattle.rules.specs.declared.Legging.{Legging}
-use Rattle.rules.specs.declared.Listed.{Listed}
 use Rattle.rules.specs.declared.Edition.{Edition}
 use Rattle.rules.specs.declared.Venue.{Venue}
-use Rattle.rules.specs.Words.{no_regular, no_complex, no_legging, not_listed, no_edition, with_regular, with_complex, with_legging, with_series, with_editions}
+use Rattle.rules.specs.Words.{no_regular, no_complex, no_edition, with_regular, with_complex, with_legging, with_series, with_editions}
 use Rattle.rules.specs.Words.{with_generations, with_last, with_reached, is_series, is_side, within}
 use Rattle.rules.specs.Places.{holds_regular, holds_complex, holds_edition, blank_regular, blank_complex, blank_edition, packed, close_gaps}
 use Rattle.rules.specs.Step.{mask}
@@ -31,19 +29,18 @@ use Rattle.rules.proofs.Closing.{packed-free}
 use Rattle.rules.proofs.Arranging.{arranged-out, blank-free, blank-free_c, closed_same}
 use Rattle.places.proofs.Orderly.{sound-orderly}
 use Rattle.places.proofs.Fully.{range-bounded, sound-fully}
-use Rattle.places.specs.Layout.{size, in_use, regular_in, complex_in, listed_in, edition_in, venue_of, regular_put, Bounded, edition_row, Fully, Figured}
+use Rattle.places.specs.Layout.{size, in_use, regular_in, complex_in, edition_in, venue_of, regular_put, Bounded, edition_row, Fully, Figured}
 use Rattle.places.specs.Layout.{FiguresCounted, ComplexBounded, SameCounts, Filled, Placed, OnSide, RegularsPlaced, ComplexesPlaced, Loadable, RegularsLoaded}
-use Rattle.places.specs.Layout.{ComplexesLoaded, EditionsLoaded, BesideCounted, Laid}
-use Rattle.places.specs.Offsets.{regulars_used_at, complexes_used_at, regulars_known_at, complexes_known_at, legging_mask_at, edition_number_at, figures_at, regular_reserve_at, show_again_at, generation_messages_at}
-use Rattle.places.proofs.Tables.{upto-length, used-length, used-at, used-free, whole}
-use Rattle.places.proofs.Parts.{Outside, OutsideRows, halves, stored, wider, edition-kept, count_kept, count-kept2, regulars-kept, complexes-kept}
-use Rattle.places.proofs.Parts.{leggings-kept, series-kept, generations-kept, last-kept, reached-kept, venue-is}
-use Rattle.places.proofs.Masks.{legging-many}
+use Rattle.venue_numbers.specs.Parts.{SameUsed, PartOf}
+use Rattle.places.specs.Layout.{ComplexesLoaded, BesideCounted, Laid}
+use Rattle.places.specs.Offsets.{regulars_used_at, complexes_used_at, regulars_known_at, complexes_known_at, legging_mask_at, edition_number_at, edition_next_at, figures_at, regular_reserve_at, show_again_at, generation_messages_at}
+use Rattle.places.proofs.Tables.{used-length, used-at, used-free}
+use Rattle.places.proofs.Parts.{Outside, OutsideRows, halves, stored, wider, edition-set, count_kept, count-kept2}
 use Rattle.places.proofs.Beside.{figures-marked, beside-venue}
 use Rattle.place_writes.proofs.Figures.{counted-outside}
-use Rattle.place_writes.proofs.Stores.{regular-back, complex-back, edition-back}
+use Rattle.place_writes.proofs.Stores.{sets-outside, regular-back, complex-back, edition-back}
 use Rattle.places.proofs.Free.{filled_more}
-use Rattle.place_writes.proofs.Gaps.{Rows, rows-between}
+use Rattle.place_writes.proofs.Gaps.{Rows}
 use Rattle.place_writes.proofs.Closed.{regular-rows, complex_put, OutsideComplexes, complex-rows, regulars-set, complexes-set, regulars-filled, complexes-filled}
 
 -- Rows, to the first free place ----------------------------------------------------------------
@@ -160,129 +157,49 @@ complexes-last a b l i m n few rest =
 
 -- the first i places of one part are l's, and nothing else changed
 pub record Loading {A : Type 0} (With : Venue → List A → Venue) (part : Venue → List A) (a b : List ℕ) (l : List A) (i : ℕ) : Type 0 where
-  pub long : length b ≡ size
   pub others : With (venue_of b) l ≡ With (venue_of a) l
   pub front : take i (part (venue_of b)) ≡ take i l
-  pub counts : SameCounts a b
+  pub used : SameUsed a b
 
-module _ {A : Type 0} (With : Venue → List A → Venue) (part : Venue → List A) (none : A) (n : ℕ)
-    (again : (v : Venue) (x y : List A) → With (With v x) y ≡ With v y) (got : (v : Venue) (x : List A) → part (With v x) ≡ x)
-    (own : (v : Venue) → With v (part v) ≡ v) (many : (b : List ℕ) → length (part (venue_of b)) ≡ n) (a : List ℕ) (l : List A) where
-  pub loading-first : length a ≡ size → Loading With part a a l 0
-  loading-first e = record { long = e; others = refl; front = refl; counts = record { regulars = refl; complexes = refl; right = λ h. h } }
+module _ {A : Type 0} (With : Venue → List A → Venue) (part : Venue → List A) (n : ℕ) (p : PartOf With part n) (a : List ℕ) (l : List A) where
+  pub loading-first : Loading With part a a l 0
+  loading-first = record { others = refl; front = refl; used = record { regulars = refl; complexes = refl } }
 
-  pub loading-next : (b b' : List ℕ) (i : ℕ) → Loading With part a b l i → i < n → length l ≡ n → (x : A) → x ≡ get_or l i none → length b' ≡ length b →
-      venue_of b' ≡ With (venue_of b) (set (part (venue_of b)) i x) → SameCounts b b' → Loading With part a b' l (i + 1)
-  loading-next b b' i m lt ln x is e v c = record {
-    long = e ∙ m.long;
-    others = ap (λ (w : Venue). With w l) v ∙ again (venue_of b) (set (part (venue_of b)) i x) l ∙ m.others;
+  pub loading-next : (d : A) (b b' : List ℕ) (i : ℕ) → Loading With part a b l i → i < n → length l ≡ n → (x : A) → x ≡ get_or l i d →
+      venue_of b' ≡ With (venue_of b) (set (part (venue_of b)) i x) → SameUsed b b' → Loading With part a b' l (i + 1)
+  loading-next d b b' i m lt ln x is v c = record {
+    others = ap (λ (w : Venue). With w l) v ∙ p.again (venue_of b) (set (part (venue_of b)) i x) l ∙ m.others;
     front =
-        ap (λ (w : Venue). take (i + 1) (part w)) v ∙ ap (take (i + 1)) (got (venue_of b) (set (part (venue_of b)) i x))
+        ap (λ (w : Venue). take (i + 1) (part w)) v ∙ ap (take (i + 1)) (p.got (venue_of b) (set (part (venue_of b)) i x))
         ∙ ap (λ (k : ℕ). take k (set (part (venue_of b)) i x)) (add-one i)
-        ∙ take-suc-set (part (venue_of b)) i x (omega (arith, many b))
+        ∙ take-suc-set (part (venue_of b)) i x (omega (arith, p.many b))
         ∙ ap (λ (t : List A). t ++ (x ∷ [])) m.front
         ∙ ap (λ (y : A). take i l ++ (y ∷ [])) is
-        ∙ sym (take-suc l i none (omega arith))
+        ∙ sym (take-suc l i d (omega arith))
         ∙ sym (ap (λ (k : ℕ). take k l) (add-one i));
-    counts = record { regulars = c.regulars ∙ m.counts.regulars; complexes = c.complexes ∙ m.counts.complexes; right = λ h. c.right (m.counts.right h) };
+    used = record { regulars = c.regulars ∙ m.used.regulars; complexes = c.complexes ∙ m.used.complexes };
   }
 
   pub loading-last : (b : List ℕ) (i : ℕ) → Loading With part a b l i → n ≤ i → length l ≡ n → venue_of b ≡ With (venue_of a) l
   loading-last b i m h ln =
-      sym (own (venue_of b))
-      ∙ ap (With (venue_of b)) (sym (take_all i (part (venue_of b)) (omega (arith, many b))) ∙ m.front ∙ take_all i l (omega arith))
+      sym (p.own (venue_of b))
+      ∙ ap (With (venue_of b)) (sym (take_all i (part (venue_of b)) (omega (arith, p.many b))) ∙ m.front ∙ take_all i l (omega arith))
       ∙ m.others
 
-abbrev pub LoadingLeggings : (a b : List ℕ) (l : List Legging) (i : ℕ) → Type 0
-LoadingLeggings = Loading with_legging (λ v. v.legging)
+-- a part's place put, as a function that keeps all that is right puts it
+pub used-kept : (a b : List ℕ) → SameCounts a b → SameUsed a b
+used-kept a b c = record { regulars = c.regulars; complexes = c.complexes }
 
-pub legging-first : (a : List ℕ) (l : List Legging) → length a ≡ size → LoadingLeggings a a l 0
-unfolding with_legging
-legging-first = loading-first with_legging (λ v. v.legging) no_legging 16 (λ v x y. refl) (λ v x. refl) (λ v. refl) legging-many
-
-pub legging-next : (a : List ℕ) (l : List Legging) (b b' : List ℕ) (i : ℕ) → LoadingLeggings a b l i → i < 16 → length l ≡ 16 → (x : Legging) → x ≡ get_or l i no_legging →
-    length b' ≡ length b → venue_of b' ≡ with_legging (venue_of b) (set (venue_of b).legging i x) → SameCounts b b' → LoadingLeggings a b' l (i + 1)
-unfolding with_legging
-legging-next = loading-next with_legging (λ v. v.legging) no_legging 16 (λ v x y. refl) (λ v x. refl) (λ v. refl) legging-many
-
-pub legging-last : (a : List ℕ) (l : List Legging) (b : List ℕ) (i : ℕ) → LoadingLeggings a b l i → 16 ≤ i → length l ≡ 16 → venue_of b ≡ with_legging (venue_of a) l
-unfolding with_legging
-legging-last = loading-last with_legging (λ v. v.legging) no_legging 16 (λ v x y. refl) (λ v x. refl) (λ v. refl) legging-many
-
-abbrev pub LoadingSeries : (a b : List ℕ) (l : List Listed) (i : ℕ) → Type 0
-LoadingSeries = Loading with_series (λ v. v.series)
-
-series-many : (b : List ℕ) → length (venue_of b).series ≡ 8
-unfolding venue_of
-series-many b = upto-length (listed_in b) 0 8
-
-pub series-first : (a : List ℕ) (l : List Listed) → length a ≡ size → LoadingSeries a a l 0
-unfolding with_series
-series-first = loading-first with_series (λ v. v.series) not_listed 8 (λ v x y. refl) (λ v x. refl) (λ v. refl) series-many
-
-pub series-next : (a : List ℕ) (l : List Listed) (b b' : List ℕ) (i : ℕ) → LoadingSeries a b l i → i < 8 → length l ≡ 8 → (x : Listed) → x ≡ get_or l i not_listed →
-    length b' ≡ length b → venue_of b' ≡ with_series (venue_of b) (set (venue_of b).series i x) → SameCounts b b' → LoadingSeries a b' l (i + 1)
-unfolding with_series
-series-next = loading-next with_series (λ v. v.series) not_listed 8 (λ v x y. refl) (λ v x. refl) (λ v. refl) series-many
-
-pub series-last : (a : List ℕ) (l : List Listed) (b : List ℕ) (i : ℕ) → LoadingSeries a b l i → 8 ≤ i → length l ≡ 8 → venue_of b ≡ with_series (venue_of a) l
-unfolding with_series
-series-last = loading-last with_series (λ v. v.series) not_listed 8 (λ v x y. refl) (λ v x. refl) (λ v. refl) series-many
-
--- Editions, each of which a place holds as it is -------------------------------------------------
-
-abbrev low_edition : ℕ → ℕ
-low_edition i = 4 * i + edition_number_at
-
-edition-wide : (i : ℕ) (e : Edition) → 4 * i + edition_number_at + length (edition_row e) ≡ 4 * (i + 1) + edition_number_at
-unfolding edition_row
-edition-wide i e = omega arith
-
-edition-agree : (a b : List ℕ) (l h i : ℕ) → Outside l h a b → (4 * (i + 1) + edition_number_at ≤ l) ⊎ (h ≤ 4 * i + edition_number_at) → edition_in a i ≡ edition_in b i
-edition-agree a b l h i o (inl w) = edition-kept o i (inl (omega arith))
-edition-agree a b l h i o (inr w) = edition-kept o i (inr w)
-
-abbrev edition_put : List ℕ → ℕ → Edition → List ℕ
-edition_put a i e = sets a (4 * i + edition_number_at) (edition_row e)
-
-abbrev OutsideEditions : (i j : ℕ) (a b : List ℕ) → Type 0
-OutsideEditions i j = Outside (4 * i + edition_number_at) (4 * j + edition_number_at)
-
-edition-rows : Rows 32 edition_in edition_put OutsideEditions
-edition-rows = rows-between 32 low_edition edition_in edition_row (λ i j h. omega arith) edition-wide edition-agree
-
-abbrev pub LayingEditions : (a b : List ℕ) (l : List Edition) (i : ℕ) → Type 0
-LayingEditions = Laying (λ _. true) no_edition edition_in OutsideEditions
-
-pub editions-first : (a : List ℕ) (l : List Edition) → length a ≡ size → LayingEditions a a l 0
-editions-first = laying-first (λ _. true) no_edition 32 edition_in edition_put OutsideEditions edition-rows
-
-pub editions-next : (a b b' : List ℕ) (l : List Edition) (i : ℕ) → LayingEditions a b l i → i < 32 → (e : Edition) → e ≡ get_or l i no_edition →
-    e.figure < 256 → e.value < 256 → b' ≡ edition_put b i e → LayingEditions a b' l (i + 1)
-editions-next a b b' l i m lt e is w x q =
-    rw (q, is) (laying-next (λ _. true) no_edition 32 edition_in edition_put OutsideEditions edition-rows a b l i m lt refl
-    (edition-back b i (get_or l i no_edition) m.long lt (rw is at w) (rw is at x)))
-
-editions-part : (b : List ℕ) → (venue_of b).editions ≡ in_use (edition_in b) no_edition 32 32
-unfolding venue_of
-editions-part b = sym (whole (edition_in b) no_edition 32)
-
-pub editions-last : (a b : List ℕ) (l : List Edition) (i : ℕ) → LayingEditions a b l i → length l ≡ 32 → i ≡ 32 → EditionsLoaded a l b
-unfolding with_editions
-editions-last a b l i m n e = record {
-  venue = venue-is (venue_of b) (with_editions (venue_of a) l) (regulars-kept o (omega arith) (inr (omega arith)) (inl (omega arith))) (complexes-kept o (inr (omega arith)) (inl (omega arith)))
-      (leggings-kept o (inr (omega arith))) (series-kept o (inr (omega arith))) part (generations-kept o (inl (omega arith))) (last-kept o (inl (omega arith))) (reached-kept o (inr (omega arith)));
-  regulars = count_kept o (inl (omega arith));
-  complexes = count-kept2 o (inl (omega arith));
-}
+-- an edition put; the figures stay as they are
+pub edition-put : (a b : List ℕ) (i : ℕ) (e : Edition) → length a ≡ size → i < 32 → e.figure < 256 → e.value < 256 → b ≡ sets a (4 * i + edition_number_at) (edition_row e) →
+    (venue_of b ≡ with_editions (venue_of a) (set (venue_of a).editions i e)) × SameUsed a b
+edition-put a b i e n h w x is = (
+  edition-set o h ∙ ap (λ (y : Edition). with_editions (venue_of a) (set (venue_of a).editions i y)) (ap (λ (m : List ℕ). edition_in m i) is ∙ edition-back a i e n h w x),
+  record { regulars = count_kept o (inl (omega arith)); complexes = count-kept2 o (inl (omega arith)) },
+)
   where
-    o : Outside edition_number_at figures_at a b
-    o = wider (omega arith) (omega arith) m.outside
-
-    part : (venue_of b).editions ≡ l
-    part = editions-part b ∙ sym (ap (λ (k : ℕ). in_use (edition_in b) no_edition k 32) e)
-        ∙ laid (λ _. true) no_edition 32 edition_in edition_put OutsideEditions edition-rows a b l i m n (omega arith)
-        (past_end no_edition l i (omega arith))
+    o : Outside (4 * i + edition_number_at) (4 * i + edition_next_at) a b
+    o = rw is (unfold edition_row in wider (omega arith) (omega arith) (sets-outside a (4 * i + edition_number_at) (edition_row e)))
 
 -- The whole venue -----------------------------------------------------------------------------
 
@@ -355,13 +272,13 @@ beside-counted h f x wide count even figs = record {
     figured steps = record { so = figs.figures; some = λ s w. rw (figs.figures s (omega arith), beside) (figures-some (venue_of h) s (steps s w)) }
 
 pub loaded : (v : Venue) (k a b c d e g h y : List ℕ) → venue_of a ≡ with_reached (with_generations (venue_of k) v.generations) v.reached →
-    RegularsLoaded a v.regular b → ComplexesLoaded b v.complex c → venue_of d ≡ with_legging (venue_of c) v.legging → SameCounts c d →
-    venue_of e ≡ with_series (venue_of d) v.series → SameCounts d e → EditionsLoaded e v.editions g → venue_of h ≡ with_last (venue_of g) v.last → SameCounts g h →
+    RegularsLoaded a v.regular b → ComplexesLoaded b v.complex c → venue_of d ≡ with_legging (venue_of c) v.legging → SameUsed c d →
+    venue_of e ≡ with_series (venue_of d) v.series → SameUsed d e → venue_of g ≡ with_editions (venue_of e) v.editions → SameUsed e g → venue_of h ≡ with_last (venue_of g) v.last → SameCounts g h →
     BesideCounted h y → ((s : ℕ) → s < 8 → 0 < increment v s) → Fully v.regular → Laid v y
 unfolding with_regular with_complex with_legging with_series with_editions with_generations with_last with_reached
-loaded v k a b c d e g h y t rs cs ls n ss o es lt p beside steps shown =
+loaded v k a b c d e g h y t rs cs ls n ss o es q lt p beside steps shown =
     let is : venue_of h ≡ v = lt ∙ ap (λ (w : Venue). with_last w v.last)
-    (es.venue ∙ ap (λ (w : Venue). with_editions w v.editions)
+    (es ∙ ap (λ (w : Venue). with_editions w v.editions)
     (ss ∙ ap (λ (w : Venue). with_series w v.series)
     (ls ∙ ap (λ (w : Venue). with_legging w v.legging)
     (cs.venue ∙ ap (λ (w : Venue). with_complex w v.complex) (rs.venue ∙ ap (λ (w : Venue). with_regular w v.regular) t))))) in
@@ -369,13 +286,13 @@ loaded v k a b c d e g h y t rs cs ls n ss o es lt p beside steps shown =
       venue = beside.venue ∙ is;
       regulars = regulars-filled h y (ap (λ (w : Venue). w.regular) beside.venue) beside.regulars
           (regulars-filled g h (ap (λ (w : Venue). w.regular) lt) p.regulars
-          (regulars-filled e g (ap (λ (w : Venue). w.regular) es.venue) es.regulars
+          (regulars-filled e g (ap (λ (w : Venue). w.regular) es) q.regulars
           (regulars-filled d e (ap (λ (w : Venue). w.regular) ss) o.regulars
           (regulars-filled c d (ap (λ (w : Venue). w.regular) ls) n.regulars
           (regulars-filled b c (ap (λ (w : Venue). w.regular) cs.venue) cs.regulars rs.filled)))));
       complexes = complexes-filled h y (ap (λ (w : Venue). w.complex) beside.venue) beside.complexes
           (complexes-filled g h (ap (λ (w : Venue). w.complex) lt) p.complexes
-          (complexes-filled e g (ap (λ (w : Venue). w.complex) es.venue) es.complexes
+          (complexes-filled e g (ap (λ (w : Venue). w.complex) es) q.complexes
           (complexes-filled d e (ap (λ (w : Venue). w.complex) ss) o.complexes
           (complexes-filled c d (ap (λ (w : Venue). w.complex) ls) n.complexes cs.filled))));
       marked = beside.marked (λ s w. rw is (steps s w)) (rw is shown);
