@@ -1,7 +1,7 @@
 -- What the functions require, each part by its name.
-use Rattle.std.specs.Prelude.{◌≡◌, List, ℕ, ◌<◌, ◌≤◌, length, ℤ, nat_abs}
+use Rattle.std.specs.Prelude.{◌≡◌, List, ℕ, ◌<◌, ◌≤◌, ℤ, nat_abs}
 use Rattle.rules.specs.Prices.{best_regular}
-use Rattle.places.specs.Layout.{size, Right, Dense, Figured, complexes_used, venue_of, level_of}
+use Rattle.places.specs.Layout.{Right, Dense, Figured, complexes_used, venue_of, level_of}
 use Rattle.levels.specs.Grid.{GridOf, LegsIn, TakenOf, SidesOf}
 use Rattle.rules.specs.declared.Complex.{Complex}
 use Rattle.places.specs.declared.Level.{Level}

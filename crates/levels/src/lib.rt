@@ -35,7 +35,7 @@ fn with_order(l: Level, o: Regular) -> Level
     if shown == 0 {
         return l;
     }
-    let size = shown as u64;
+    let size = u64::from(shown);
     if o.price == l.price {
         return Level {
             price: l.price,
@@ -58,9 +58,8 @@ fn level_of(numbers: &Numbers, s: u8, d: u8) -> Level
 {
     let key = arithmetic::place_of(s, d);
     let mut l = Level { price: 0, size: 0 };
-    let mut i = places::regulars_used(numbers);
-    while 0 < i {
-        i -= 1;
+    let n = places::regulars_used(numbers);
+    for i in (0..n).rev() {
         if places::key_at(numbers, i) != key {
             continue;
         }
@@ -75,10 +74,8 @@ fn zero_levels(numbers: &mut Numbers)
     ensures { LevelsPut (λ _. no_level) numbers.old numbers.new }
 {
     let none = Level { price: 0, size: 0 };
-    let mut n: usize = 0;
-    while n < 16 {
+    for n in 0..16 {
         place_writes::put_level(numbers, n, none);
-        n += 1;
     }
 }
 
@@ -87,13 +84,12 @@ fn make_levels(numbers: &mut Numbers)
     ensures { LevelsPut (level_by (venue_of numbers.old).regular) numbers.old numbers.new }
 {
     zero_levels(numbers);
-    let mut i = places::regulars_used(numbers);
-    while 0 < i {
-        i -= 1;
+    let n = places::regulars_used(numbers);
+    for i in (0..n).rev() {
         let o = places::regular_at(numbers, i);
-        let n = places::key_at(numbers, i);
-        let l = places::level_at(numbers, n);
-        place_writes::put_level(numbers, n, with_order(l, o));
+        let key = places::key_at(numbers, i);
+        let l = places::level_at(numbers, key);
+        place_writes::put_level(numbers, key, with_order(l, o));
     }
 }
 
@@ -132,7 +128,7 @@ pub fn fill_order(numbers: &mut Numbers, i: usize, k: u32)
         return;
     }
     let shown = arithmetic::shown_size(o);
-    let gone = arithmetic::lesser(k, shown) as u64;
+    let gone = u64::from(arithmetic::lesser(k, shown));
     if gone < l.size {
         let rest = Level {
             price: l.price,
@@ -176,13 +172,11 @@ pub fn levels(numbers: &Numbers) -> [[Level; 2]; 8]
 {
     let none = Level { price: 0, size: 0 };
     let mut g = [[none; 2]; 8];
-    let mut s: usize = 0;
-    while s < 8 {
+    for s in 0..8 {
         let bids = places::level_at(numbers, 2 * s);
         let offers = places::level_at(numbers, 2 * s + 1);
         g[s][0] = bids;
         g[s][1] = offers;
-        s += 1;
     }
     g
 }

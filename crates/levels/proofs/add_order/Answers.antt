@@ -1,6 +1,4 @@
 -- `levels::add_order` meets its contract.
-use mathlib.Core.Path.{◌∙◌}
-use native.Mathlib.Omega.{arith}
 use Rattle.levels.proofs.LevelsKept.{place-low, level-small, added}
 use Rattle.levels.proofs.add_order.Goals as goal
 

@@ -9,13 +9,14 @@ returns-then-shown-eq0 c = with-free _ _ _ c.shown_size-shown.ensures c.if-shown
 pub returns-then-o-l : goal.returns-then-o-l
 returns-then-o-l c = let s = c.args in
     let n = c.shown_size-shown in
-    with-held s.o s.l n.result n.ensures c.if-shown-eq0.false _ (joined_same s.o.side s.o.price n.result s.l c.if-o-l.true)
+    rw c.from-size.ensures (with-held s.o s.l n.result n.ensures c.if-shown-eq0.false _ (joined_same s.o.side s.o.price n.result s.l c.if-o-l.true))
 
 pub returns-then-is_better : goal.returns-then-is_better
 returns-then-is_better c = let s = c.args in
     let n = c.shown_size-shown in
-    with-held s.o s.l n.result n.ensures c.if-shown-eq0.false _
-    (joined-better s.o.side s.o.price n.result s.l c.if-o-l.false (sym c.is_better.ensures ∙ c.if-is_better.true))
+    rw c.from-size.ensures
+    (with-held s.o s.l n.result n.ensures c.if-shown-eq0.false _
+    (joined-better s.o.side s.o.price n.result s.l c.if-o-l.false (sym c.is_better.ensures ∙ c.if-is_better.true)))
 
 pub returns : goal.returns
 returns c = let s = c.args in

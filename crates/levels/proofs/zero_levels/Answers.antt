@@ -1,5 +1,4 @@
 -- `levels::zero_levels` meets its contract.
-use mathlib.Core.Path.{sym, ◌∙◌}
 use native.Mathlib.Omega.{arith}
 use Rattle.levels.proofs.LevelsKept.{zeroing-start, zeroing-turn, zeroing-end}
 use Rattle.levels.proofs.zero_levels.Goals as goal
