@@ -29,8 +29,9 @@ use Rattle.places.proofs.Beside.{RegularsMarked, ComplexesMarked, LeggingMarked,
 use Rattle.places.proofs.Beside.{complexes-marked, legging-marked, figures-marked, shows-marked, beside-venue, right-on, right_kept}
 use Rattle.places.proofs.Orderly.{orderly-packed}
 use Rattle.places.proofs.Fully.{fully-packed}
+use Rattle.place_writes.specs.Moving.{Rows, Moving, complex_put, OutsideComplexes}
 use Rattle.place_writes.proofs.Stores.{row-outside, reserve-outside, put-length, regular-back, complex-back, counted, counted2}
-use Rattle.place_writes.proofs.Gaps.{closing-start, closed-count, closed-part, free-place, Rows, rows-between, Moving, moving-start, moving-skip, moving-keep}
+use Rattle.place_writes.proofs.Gaps.{closing-start, closed-count, closed-part, free-place, rows-between, moving-start, moving-skip, moving-keep}
 
 -- Rows ----------------------------------------------------------------------------------------
 
@@ -71,17 +72,11 @@ regular-rows = record {
     up-two i k (inl h) = inl h
     up-two i k (inr h) = inr (omega arith)
 
-abbrev pub complex_put : List ℕ → ℕ → Complex → List ℕ
-complex_put a i c = sets a (6 * i + complex_id_at) (complex_row c)
-
-abbrev pub OutsideComplexes : (i j : ℕ) (a b : List ℕ) → Type 0
-OutsideComplexes i j = Outside (6 * i + complex_id_at) (6 * j + complex_id_at)
-
 pub complex-rows : Rows 32 complex_in complex_put OutsideComplexes
 complex-rows = rows-between 32 low_complex complex_in complex_row (λ i j h. omega arith) complex-wide complex-agree
 
 -- what is read may be written
-regular-again : (a c : List ℕ) (i k : ℕ) → length a ≡ size → i < 128 → regular_in (regular_put a i (regular_in c k)) i ≡ regular_in c k
+pub regular-again : (a c : List ℕ) (i k : ℕ) → length a ≡ size → i < 128 → regular_in (regular_put a i (regular_in c k)) i ≡ regular_in c k
 regular-again a c i k e h =
     regular-back a i (regular_in c k) e h (unfold regular_in in omega arith) (unfold regular_in in omega arith)
     (record { display = unfold regular_in in omega arith; reserve = unfold regular_in in omega arith })
@@ -95,7 +90,7 @@ complex-keeps c k = record {
   ratio2 = omega arith;
 }
 
-complex-again : (a c : List ℕ) (i k : ℕ) → length a ≡ size → i < 32 → complex_in (sets a (6 * i + complex_id_at) (complex_row (complex_in c k))) i ≡ complex_in c k
+pub complex-again : (a c : List ℕ) (i k : ℕ) → length a ≡ size → i < 32 → complex_in (sets a (6 * i + complex_id_at) (complex_row (complex_in c k))) i ≡ complex_in c k
 complex-again a c i k e h =
     complex-back a i (complex_in c k) e h (unfold complex_in in omega arith) (unfold complex_in in omega arith) (unfold complex_in in omega arith) (unfold complex_in in omega arith) (complex-keeps c k)
 

@@ -16,16 +16,10 @@ use Rattle.rules.specs.Places.{packed}
 use Rattle.places.specs.Layout.{size, upto, in_use, Filled}
 use Rattle.places.proofs.Tables.{upto-length, upto-same, upto-more, used-length}
 use Rattle.places.proofs.Parts.{Outside, wider, joined, unmoved}
+use Rattle.place_writes.specs.Moving.{Closing, Rows, Moving}
 use Rattle.place_writes.proofs.Stores.{sets-outside, sets-length}
 
 module _ {A : Type 0} (holds : A → Bool) where
-  -- of n places, that were f and are g, i are read and j of them kept
-  pub record Closing (n : ℕ) (f g : ℕ → A) (i j : ℕ) : Type 0 where
-    pub read : i ≤ n
-    pub fewer : j ≤ i
-    pub front : upto g 0 j ++ keep holds (upto f i (n - i)) ≡ keep holds (upto f 0 n)
-    pub full : Filled holds g j
-
   skip-one : (f : ℕ → A) (i k m : ℕ) → k ≡ suc m → holds (f i) ≡ false → keep holds (upto f i k) ≡ keep holds (upto f (i + 1) m)
   unfolding keep upto
   skip-one f i k m e h = rw (e, add-one i, h) refl
@@ -34,8 +28,8 @@ module _ {A : Type 0} (holds : A → Bool) where
   unfolding keep upto
   keep_one f i k m e h = rw (e, add-one i, h) refl
 
-  module _ (n : ℕ) (f g : ℕ → A) (i j : ℕ) (p : Closing n f g i j) (lt : i < n) where
-    pub closing-skip : holds (f i) ≡ false → Closing n f g (i + 1) j
+  module _ (n : ℕ) (f g : ℕ → A) (i j : ℕ) (p : Closing holds n f g i j) (lt : i < n) where
+    pub closing-skip : holds (f i) ≡ false → Closing holds n f g (i + 1) j
     closing-skip h = let q = p.fewer in record {
       read = omega arith;
       fewer = omega arith;
@@ -43,7 +37,7 @@ module _ {A : Type 0} (holds : A → Bool) where
       full = p.full;
     }
 
-    pub closing-keep : (g' : ℕ → A) → holds (f i) ≡ true → ((k : ℕ) → k < j → g k ≡ g' k) → g' j ≡ f i → Closing n f g' (i + 1) (j + 1)
+    pub closing-keep : (g' : ℕ → A) → holds (f i) ≡ true → ((k : ℕ) → k < j → g k ≡ g' k) → g' j ≡ f i → Closing holds n f g' (i + 1) (j + 1)
     closing-keep g' h same new = let q = p.fewer in record {
       read = omega arith;
       fewer = omega arith;
@@ -60,7 +54,7 @@ module _ {A : Type 0} (holds : A → Bool) where
     }
 
   -- held places are kept where they are
-  pub closing-start : (n : ℕ) (f : ℕ → A) (r : ℕ) → r ≤ n → Filled holds f r → Closing n f f r r
+  pub closing-start : (n : ℕ) (f : ℕ → A) (r : ℕ) → r ≤ n → Filled holds f r → Closing holds n f f r r
   unfolding upto
   closing-start n f zero h full = record {
     read = omega arith;
@@ -78,7 +72,7 @@ module _ {A : Type 0} (holds : A → Bool) where
     keep-free [] (suc m) = rw free (keep-free [] m)
     keep-free (x ∷ l) m = ap (λ (t : List A). if holds x then x ∷ t else t) (keep-free l m)
 
-    module _ (n all : ℕ) (f g : ℕ → A) (j : ℕ) (p : Closing n f g n j) (h : n ≤ all) where
+    module _ (n all : ℕ) (f g : ℕ → A) (j : ℕ) (p : Closing holds n f g n j) (h : n ≤ all) where
       kept-is : upto g 0 j ≡ keep holds (upto f 0 n)
       unfolding upto keep
       kept-is =
@@ -117,15 +111,6 @@ module _ {A : Type 0} (holds : A → Bool) where
 
 -- Rows of numbers ------------------------------------------------------------------------------
 
--- each of `all` places has numbers of its own, which `write` writes; `Same i j` says that only those of the places from i to below j may differ
-pub record Rows {A : Type 0} (all : ℕ) (row_in : List ℕ → ℕ → A) (write : List ℕ → ℕ → A → List ℕ) (Same : (i j : ℕ) (a b : List ℕ) → Type 0) : Type 0 where
-  pub long : (a : List ℕ) (i : ℕ) (x : A) → length (write a i x) ≡ length a
-  pub none : (i j : ℕ) (a : List ℕ) → Same i j a a
-  pub wide : (i j k l : ℕ) (a b : List ℕ) → k ≤ i → j ≤ l → Same i j a b → Same k l a b
-  pub join : (i j : ℕ) (a b c : List ℕ) → Same i j a b → Same i j b c → Same i j a c
-  pub wrote : (a : List ℕ) (i : ℕ) (x : A) → Same i (i + 1) a (write a i x)
-  pub agree : (a b : List ℕ) (i j k : ℕ) → j ≤ all → k < all → Same i j a b → (k < i) ⊎ (j ≤ k) → row_in a k ≡ row_in b k
-
 -- those from `low i` to below `low (i + 1)`
 pub rows-between : {A : Type 0} (all : ℕ) (low : ℕ → ℕ) (row_in : List ℕ → ℕ → A) (row : A → List ℕ) → ((i j : ℕ) → i ≤ j → low i ≤ low j) →
     ((i : ℕ) (x : A) → low i + length (row x) ≡ low (i + 1)) →
@@ -143,11 +128,6 @@ rows-between all low row_in row rises width agree = record {
     near : (i j k : ℕ) → (k < i) ⊎ (j ≤ k) → (low (k + 1) ≤ low i) ⊎ (low j ≤ low k)
     near i j k (inl h) = inl (rises (k + 1) i (omega arith))
     near i j k (inr h) = inr (rises j k h)
-
-pub record Moving {A : Type 0} (holds : A → Bool) (row_in : List ℕ → ℕ → A) (Same : (i j : ℕ) (a b : List ℕ) → Type 0) (a b : List ℕ) (n i j : ℕ) : Type 0 where
-  pub long : length b ≡ size
-  pub places : Closing holds n (row_in a) (row_in b) i j
-  pub outside : Same 0 i a b
 
 module _ {A : Type 0} (holds : A → Bool) (all : ℕ) (row_in : List ℕ → ℕ → A) (write : List ℕ → ℕ → A → List ℕ) (Same : (i j : ℕ) (a b : List ℕ) → Type 0)
     (rows : Rows all row_in write Same) (back : (a c : List ℕ) (i k : ℕ) → length a ≡ size → i < all → row_in (write a i (row_in c k)) i ≡ row_in c k) where

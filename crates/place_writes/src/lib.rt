@@ -1,7 +1,7 @@
 // What changes in the venue inside a call, as stores into the numbers of its slice (places' specs/Layout.antt).
 #![tactic(auto)]
 
-ghost use Rattle.std.specs.Prelude.{◌≡◌, suc, min, ◌+◌, ◌-◌, ◌*◌, ◌^◌, ◌≤◌, ◌<◌, length, get_or, set};
+ghost use Rattle.std.specs.Prelude.{◌≡◌, Bool, List, ℕ, suc, min, ◌+◌, ◌-◌, ◌*◌, ◌^◌, ◌≤◌, ◌<◌, length, get_or, set};
 ghost use Rattle.std.proofs.lemmas.List.Edits.{sets};
 ghost use Rattle.rules.specs.Words.{place_of, with_series, with_editions, with_generations, with_last, with_reached};
 ghost use Rattle.rules.specs.Trading.{fill_regular, fill_complex, put_regular, put_complex};
@@ -13,8 +13,9 @@ ghost use Rattle.places.specs.Layout.{FiguresBase, FigureSet, FiguresCounted};
 ghost use Rattle.places.specs.Layout.{Beside, SameBeside, LevelPut, Counts, SameCounts};
 ghost use Rattle.places.specs.Layout.{Filled, RegularsClosed, ComplexesClosed, GapsClosed};
 ghost use Rattle.places.specs.Offsets.{complex_id_at, edition_number_at};
-ghost use Rattle.places.specs.Requirements.{CountedRegulars};
-ghost use Rattle.places.specs.Requirements.{CountedComplexes, RegularRoom, ComplexRoom, EditionRoom};
+ghost use Rattle.places.specs.Requirements.{RegularRoom, ComplexRoom, EditionRoom};
+ghost use Rattle.place_writes.specs.Moving.{Rows, Moving, complex_put, OutsideComplexes};
+ghost use Rattle.places.proofs.Parts.{OutsideRows};
 
 use places::{Level, Numbers};
 use rules::{Complex, Edition, Generations, Legging, Listed, Regular};
@@ -281,18 +282,125 @@ pub fn put_reached(numbers: &mut Numbers, id: u32)
     numbers[places::ID_REACHED_AT] = id;
 }
 
-// The regular places before the first free one of n; those that are known to be held are not looked at.
-fn held_regulars(numbers: &Numbers, n: usize) -> usize
-    requires { CountedRegulars numbers.now n }
-    ensures { (result ≤ n) × Filled holds_regular (regular_in numbers.now) result }
+// An order of either book, at its place among the numbers.
+trait Order: Copy {
+    // An order is held, and not free.
+    ghost holds: { Self → Bool };
+
+    // What stands at place `i` of the numbers.
+    ghost order_in: { List ℕ → ℕ → Self };
+
+    // The numbers with an order at place `i`.
+    ghost order_put: { List ℕ → ℕ → Self → List ℕ };
+
+    // Numbers are the same but for those of the places from one to below another.
+    ghost outside: { ℕ → ℕ → List ℕ → List ℕ → Type 0 };
+
+    // How many places there are.
+    ghost many: { ℕ };
+
+    // The order at a place is held.
+    fn is_held_at(numbers: &Numbers, i: usize) -> bool
+        requires { i < many }
+        ensures { result ≡ holds (order_in numbers.now i) };
+
+    // The order at a place.
+    fn read(numbers: &Numbers, i: usize) -> Self
+        requires { i < many }
+        ensures { result ≡ order_in numbers.now i };
+
+    // An order's numbers, at a place.
+    fn write(self, numbers: &mut Numbers, i: usize)
+        requires { i < many }
+        ensures { numbers.new ≡ order_put numbers.old i self };
+}
+
+impl Order for Regular {
+    ghost holds = { holds_regular };
+
+    ghost order_in = { regular_in };
+
+    ghost order_put = { regular_put };
+
+    ghost outside = { OutsideRows };
+
+    ghost many = { 128 };
+
+    // The quantity alone is looked at.
+    fn is_held_at(numbers: &Numbers, i: usize) -> bool {
+        numbers[4 * i + places::REGULAR_QUANTITY_AT] != 0
+    }
+
+    // A regular order, of its place.
+    fn read(numbers: &Numbers, i: usize) -> Regular {
+        places::regular_at(numbers, i)
+    }
+
+    // A regular order, at its place.
+    fn write(self, numbers: &mut Numbers, i: usize) {
+        write_regular(numbers, i, self);
+    }
+}
+
+impl Order for Complex {
+    ghost holds = { holds_complex };
+
+    ghost order_in = { complex_in };
+
+    ghost order_put = { complex_put };
+
+    ghost outside = { OutsideComplexes };
+
+    ghost many = { 32 };
+
+    // The quantity alone is looked at.
+    fn is_held_at(numbers: &Numbers, i: usize) -> bool {
+        numbers[6 * i + places::COMPLEX_QUANTITY_AT] != 0
+    }
+
+    // A complex order, of its place.
+    fn read(numbers: &Numbers, i: usize) -> Complex {
+        places::complex_at(numbers, i)
+    }
+
+    // A complex order, at its place.
+    fn write(self, numbers: &mut Numbers, i: usize) {
+        write_complex(numbers, i, self);
+    }
+}
+
+// The places before the first free one of n; those that are known to be held are not looked at.
+fn held_places<T: Order>(numbers: &Numbers, known: usize, n: usize) -> usize
+    requires some { (known ≤ n) × (n ≤ T.many) }
+    requires known { Filled T.holds (T.order_in numbers.now) known }
+    ensures { (result ≤ n) × Filled T.holds (T.order_in numbers.now) result }
 {
-    let known = (numbers[places::REGULARS_KNOWN_AT] as usize).min(n);
     for i in known..n {
-        if numbers[4 * i + places::REGULAR_QUANTITY_AT] == 0 {
+        if !T::is_held_at(numbers, i) {
             return i;
         }
     }
     n
+}
+
+// The orders that are held move down over the gaps between them, of n places; `held` of them stand before the first gap. The places in use are returned.
+fn close_up<T: Order>(numbers: &mut Numbers, held: usize, n: usize) -> usize
+    requires some { (held ≤ n) × (n ≤ T.many) }
+    requires held { Filled T.holds (T.order_in numbers.old) held }
+    requires rows { Rows T.many T.order_in T.order_put T.outside }
+    requires again { (a c : List ℕ) (i k : ℕ) → length a ≡ size → i < T.many → T.order_in (T.order_put a i (T.order_in c k)) i ≡ T.order_in c k }
+    ensures { Moving T.holds T.order_in T.outside numbers.old numbers.new n n result }
+{
+    let mut j = held;
+    for i in held..n {
+        if !T::is_held_at(numbers, i) {
+            continue;
+        }
+        let o = T::read(numbers, i);
+        o.write(numbers, j);
+        j += 1;
+    }
+    j
 }
 
 // The regular places' gaps are closed, and all places in use are known to be held.
@@ -301,35 +409,15 @@ pub fn close_regulars(numbers: &mut Numbers)
     ensures { RegularsClosed numbers.old numbers.new }
 {
     let n = places::regulars_used(numbers);
-    let mut j = held_regulars(numbers, n);
-    if j == n {
+    let known = (numbers[places::REGULARS_KNOWN_AT] as usize).min(n);
+    let held = held_places::<Regular>(numbers, known, n);
+    if held == n {
         numbers[places::REGULARS_KNOWN_AT] = n as u32;
         return;
     }
-    for i in j..n {
-        let o = places::regular_at(numbers, i);
-        if o.quantity == 0 {
-            continue;
-        }
-        write_regular(numbers, j, o);
-        j += 1;
-    }
-    numbers[places::REGULARS_USED_AT] = j as u32;
-    numbers[places::REGULARS_KNOWN_AT] = j as u32;
-}
-
-// The complex places before the first free one of n; those that are known to be held are not looked at.
-fn held_complexes(numbers: &Numbers, n: usize) -> usize
-    requires { CountedComplexes numbers.now n }
-    ensures { (result ≤ n) × Filled holds_complex (complex_in numbers.now) result }
-{
-    let known = (numbers[places::COMPLEXES_KNOWN_AT] as usize).min(n);
-    for i in known..n {
-        if numbers[6 * i + places::COMPLEX_QUANTITY_AT] == 0 {
-            return i;
-        }
-    }
-    n
+    let left = close_up::<Regular>(numbers, held, n);
+    numbers[places::REGULARS_USED_AT] = left as u32;
+    numbers[places::REGULARS_KNOWN_AT] = left as u32;
 }
 
 // The complex places' gaps are closed, and all places in use are known to be held.
@@ -338,21 +426,15 @@ pub fn close_complexes(numbers: &mut Numbers)
     ensures { ComplexesClosed numbers.old numbers.new }
 {
     let n = places::complexes_used(numbers);
-    let mut j = held_complexes(numbers, n);
-    if j == n {
+    let known = (numbers[places::COMPLEXES_KNOWN_AT] as usize).min(n);
+    let held = held_places::<Complex>(numbers, known, n);
+    if held == n {
         numbers[places::COMPLEXES_KNOWN_AT] = n as u32;
         return;
     }
-    for i in j..n {
-        let o = places::complex_at(numbers, i);
-        if o.quantity == 0 {
-            continue;
-        }
-        write_complex(numbers, j, o);
-        j += 1;
-    }
-    numbers[places::COMPLEXES_USED_AT] = j as u32;
-    numbers[places::COMPLEXES_KNOWN_AT] = j as u32;
+    let left = close_up::<Complex>(numbers, held, n);
+    numbers[places::COMPLEXES_USED_AT] = left as u32;
+    numbers[places::COMPLEXES_KNOWN_AT] = left as u32;
 }
 
 // All gaps are closed.

@@ -40,8 +40,8 @@ use Rattle.places.proofs.Beside.{figures-marked, beside-venue}
 use Rattle.place_writes.proofs.Figures.{counted-outside}
 use Rattle.place_writes.proofs.Stores.{sets-outside, regular-back, complex-back, edition-back}
 use Rattle.places.proofs.Free.{filled_more}
-use Rattle.place_writes.proofs.Gaps.{Rows}
-use Rattle.place_writes.proofs.Closed.{regular-rows, complex_put, OutsideComplexes, complex-rows, regulars-set, complexes-set, regulars-filled, complexes-filled}
+use Rattle.place_writes.specs.Moving.{Rows, complex_put, OutsideComplexes}
+use Rattle.place_writes.proofs.Closed.{regular-rows, complex-rows, regulars-set, complexes-set, regulars-filled, complexes-filled}
 
 -- Rows, to the first free place ----------------------------------------------------------------
 

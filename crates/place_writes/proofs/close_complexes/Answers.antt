@@ -1,41 +1,16 @@
 -- `place_writes::close_complexes` meets its contract.
-use mathlib.Core.Path.{ap}
-use mathlib.Core.Bool.{not}
 use native.Mathlib.Omega.{arith}
-use borrow.Author.Tests.{eq-eqb, ne_eqb}
-use Rattle.place_writes.proofs.Closed.{complexes-start, complexes-skip, complexes-keep, complexes-whole, complexes-end}
+use Rattle.place_writes.proofs.Closed.{complex-rows, complex-again, complexes-whole, complexes-end}
 use Rattle.place_writes.proofs.close_complexes.Goals as goal
 
-pub returns-then-j-n : goal.returns-then-j-n
-returns-then-j-n c = complexes-whole _ _ _ c.complexes_used-n.ensures.0 c.if-j-n.true c.held_complexes-j.ensures.1
+pub returns-then-held-n : goal.returns-then-held-n
+returns-then-held-n c = complexes-whole _ _ _ c.complexes_used-n.ensures.0 c.if-held-n.true c.held_places-held.ensures.1
 
-pub loop-i-init : goal.loop-i-init
-loop-i-init c = complexes-start _ _ _ c.told-numbers c.held_complexes-j.ensures.0 c.held_complexes-j.ensures.1
+pub close_up-left-requires-clause-rows : goal.close_up-left-requires-clause-rows
+close_up-left-requires-clause-rows c = complex-rows
 
-pub complex_at-o-requires : goal.complex_at-o-requires
-complex_at-o-requires c = omega arith
-
-pub loop-i-preserved-then-o-eq0 : goal.loop-i-preserved-then-o-eq0
-loop-i-preserved-then-o-eq0 c = complexes-skip _ _ _ _ _ c.loop-i.invariant (omega arith) c.loop-i-test.true _ c.complex_at-o.ensures (ap not (eq-eqb _ _ c.if-o-eq0.true))
-
-pub write_complex-requires : goal.write_complex-requires
-write_complex-requires c = let m = c.loop-i.invariant in
-    let q = m.places.fewer in
-    omega arith
-
-pub overflow_add-j : goal.overflow_add-j
-overflow_add-j c = let q = c.loop-i.invariant.places.fewer in record { fits = omega arith }
-
-pub loop-i-preserved : goal.loop-i-preserved
-loop-i-preserved c = complexes-keep _ _ _ _ _ c.loop-i.invariant (omega arith) c.loop-i-test.true _
-    c.complex_at-o.ensures _
-    (ap not (ne_eqb _ _ c.if-o-eq0.false)) c.write_complex.ensures.0
-
-pub overflow_cast-numbers-2 : goal.overflow_cast-numbers-2
-overflow_cast-numbers-2 c = let q = c.loop-i.invariant.places.fewer in let p = c.loop-i.invariant.places.read in record { fits = omega arith }
-
-pub overflow_cast-numbers-3 : goal.overflow_cast-numbers-3
-overflow_cast-numbers-3 c = let q = c.loop-i.invariant.places.fewer in let p = c.loop-i.invariant.places.read in record { fits = omega arith }
+pub close_up-left-requires-clause-again : goal.close_up-left-requires-clause-again
+close_up-left-requires-clause-again c = complex-again
 
 pub returns : goal.returns
-returns c = complexes-end _ _ _ _ _ c.complexes_used-n.ensures.0 (omega arith) c.loop-i.invariant
+returns c = complexes-end _ _ _ _ _ c.complexes_used-n.ensures.0 (omega arith) c.close_up-left.ensures
