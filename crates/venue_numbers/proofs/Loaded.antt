@@ -30,28 +30,20 @@ use Rattle.rules.proofs.Arranging.{arranged-out, blank-free, blank-free_c, close
 use Rattle.places.proofs.Orderly.{sound-orderly}
 use Rattle.places.proofs.Fully.{range-bounded, sound-fully}
 use Rattle.places.specs.Layout.{size, in_use, regular_in, complex_in, edition_in, venue_of, regular_put, Bounded, edition_row, Fully, Figured}
-use Rattle.places.specs.Layout.{FiguresCounted, ComplexBounded, SameCounts, Filled, Placed, OnSide, RegularsPlaced, ComplexesPlaced, Loadable, RegularsLoaded}
-use Rattle.venue_numbers.specs.Parts.{SameUsed, PartOf}
+use Rattle.places.specs.Layout.{FiguresCounted, SameCounts, Placed, OnSide, Loadable, RegularsLoaded}
+use Rattle.venue_numbers.specs.Parts.{SameUsed, PartOf, Laying, BookLaid}
 use Rattle.places.specs.Layout.{ComplexesLoaded, BesideCounted, Laid}
 use Rattle.places.specs.Offsets.{regulars_used_at, complexes_used_at, regulars_known_at, complexes_known_at, legging_mask_at, edition_number_at, edition_next_at, figures_at, regular_reserve_at, show_again_at, generation_messages_at}
 use Rattle.places.proofs.Tables.{used-length, used-at, used-free}
 use Rattle.places.proofs.Parts.{Outside, OutsideRows, halves, stored, wider, edition-set, count_kept, count-kept2}
 use Rattle.places.proofs.Beside.{figures-marked, beside-venue}
 use Rattle.place_writes.proofs.Figures.{counted-outside}
-use Rattle.place_writes.proofs.Stores.{sets-outside, regular-back, complex-back, edition-back}
+use Rattle.place_writes.proofs.Stores.{sets-outside, edition-back}
 use Rattle.places.proofs.Free.{filled_more}
 use Rattle.place_writes.specs.Moving.{Rows, complex_put, OutsideComplexes}
 use Rattle.place_writes.proofs.Closed.{regular-rows, complex-rows, regulars-set, complexes-set, regulars-filled, complexes-filled}
 
 -- Rows, to the first free place ----------------------------------------------------------------
-
--- the first i rows are l's
-pub record Laying {A : Type 0} (holds : A → Bool) (none : A) (row_in : List ℕ → ℕ → A) (Same : (i j : ℕ) (a b : List ℕ) → Type 0) (a b : List ℕ) (l : List A) (i : ℕ) : Type 0 where
-  pub before : length a ≡ size
-  pub long : length b ≡ size
-  pub same : (k : ℕ) → k < i → row_in b k ≡ get_or l k none
-  pub full : Filled holds (row_in b) i
-  pub outside : Same 0 i a b
 
 module _ {A : Type 0} (holds : A → Bool) (none : A) (all : ℕ) (row_in : List ℕ → ℕ → A) (write : List ℕ → ℕ → A → List ℕ) (Same : (i j : ℕ) (a b : List ℕ) → Type 0)
     (rows : Rows all row_in write Same) where
@@ -65,8 +57,8 @@ module _ {A : Type 0} (holds : A → Bool) (none : A) (all : ℕ) (row_in : List
   }
 
   module _ (a b : List ℕ) (l : List A) (i : ℕ) (m : Laying holds none row_in Same a b l i) where
-    pub laying-next : i < all → holds (get_or l i none) ≡ true → row_in (write b i (get_or l i none)) i ≡ get_or l i none → Laying holds none row_in Same a (write b i (get_or l i none)) l (i + 1)
-    laying-next lt h new = record {
+    laying-step : i < all → holds (get_or l i none) ≡ true → row_in (write b i (get_or l i none)) i ≡ get_or l i none → Laying holds none row_in Same a (write b i (get_or l i none)) l (i + 1)
+    laying-step lt h new = record {
       before = m.before;
       long = rows.long b i (get_or l i none) ∙ m.long;
       same = same;
@@ -86,6 +78,9 @@ module _ {A : Type 0} (holds : A → Bool) (none : A) (all : ℕ) (row_in : List
           | yes r ↦ sym (front k r) ∙ m.same k r
           | no r ↦ (let e : k ≡ i = omega arith in ap (row_in b') e ∙ new ∙ sym (ap (λ (x : ℕ). get_or l x none) e))
         ]
+
+    pub laying-next : (x : A) (b' : List ℕ) → i < all → x ≡ get_or l i none → holds x ≡ true → b' ≡ write b i x → row_in b' i ≡ x → Laying holds none row_in Same a b' l (i + 1)
+    laying-next x b' lt is h e back = rw (e, is) (laying-step lt (ap holds (sym is) ∙ h) (rw (e, is) at back))
 
     -- the rest is free
     pub laid : length l ≡ all → i ≤ all → ((k : ℕ) → i ≤ k → get_or l k none ≡ none) → in_use (row_in b) none i all ≡ l
@@ -113,44 +108,19 @@ free-after holds none Asked l i p h k le = p.blank k (go (holds (get_or l k none
 pub past_end : {A : Type 0} (none : A) (l : List A) (i : ℕ) → length l ≤ i → (k : ℕ) → i ≤ k → get_or l k none ≡ none
 past_end none l i h k le = get_or-eq_default l none {n = k} (omega arith)
 
-abbrev pub LayingRegulars : (a b : List ℕ) (l : List Regular) (i : ℕ) → Type 0
-LayingRegulars = Laying holds_regular no_regular regular_in OutsideRows
-
-pub regulars-first : (a : List ℕ) (l : List Regular) → length a ≡ size → LayingRegulars a a l 0
-regulars-first = laying-first holds_regular no_regular 128 regular_in regular_put OutsideRows regular-rows
-
-pub regulars-next : (a b b' : List ℕ) (l : List Regular) (i : ℕ) → RegularsPlaced l → LayingRegulars a b l i → i < 128 → (o : Regular) → o ≡ get_or l i no_regular →
-    holds_regular o ≡ true → b' ≡ regular_put b i o → LayingRegulars a b' l (i + 1)
-regulars-next a b b' l i p m lt o is h e =
-    let q = p.asked i (ap holds_regular (sym is) ∙ h) in
-    rw (e, is) (laying-next holds_regular no_regular 128 regular_in regular_put OutsideRows regular-rows a b l i m lt (ap holds_regular (sym is) ∙ h)
-    (regular-back b i (get_or l i no_regular) m.long lt q.0.series q.0.side q.1))
-
-pub regulars-last : (a b : List ℕ) (l : List Regular) (i : ℕ) → LayingRegulars a b l i → length l ≡ 128 → i ≤ 128 →
-    ((k : ℕ) → i ≤ k → get_or l k no_regular ≡ no_regular) → RegularsLoaded a l (set b regulars_used_at i)
-regulars-last a b l i m n few rest =
-    let s = regulars-set a b l i m.long few (halves a b m.before m.long 0 i few m.outside)
-    (laid holds_regular no_regular 128 regular_in regular_put OutsideRows regular-rows a b l i m n few rest) m.full in
+-- the book is l
+pub regulars-last : (a b : List ℕ) (l : List Regular) (i : ℕ) → length l ≡ 128 → BookLaid holds_regular no_regular regular_in OutsideRows 128 a b l i → RegularsLoaded a l (set b regulars_used_at i)
+regulars-last a b l i n m =
+    let w = m.laying in
+    let s = regulars-set a b l i w.long m.few (halves a b w.before w.long 0 i m.few w.outside)
+    (laid holds_regular no_regular 128 regular_in regular_put OutsideRows regular-rows a b l i w n m.few m.rest) w.full in
     record { venue = s.venue; complexes = s.complexes; filled = s.filled }
 
-abbrev pub LayingComplexes : (a b : List ℕ) (l : List Complex) (i : ℕ) → Type 0
-LayingComplexes = Laying holds_complex no_complex complex_in OutsideComplexes
-
-pub complexes-first : (a : List ℕ) (l : List Complex) → length a ≡ size → LayingComplexes a a l 0
-complexes-first = laying-first holds_complex no_complex 32 complex_in complex_put OutsideComplexes complex-rows
-
-pub complexes-next : (a b b' : List ℕ) (l : List Complex) (i : ℕ) → ComplexesPlaced l → LayingComplexes a b l i → i < 32 → (o : Complex) → o ≡ get_or l i no_complex →
-    holds_complex o ≡ true → ComplexBounded o → b' ≡ complex_put b i o → LayingComplexes a b' l (i + 1)
-complexes-next a b b' l i p m lt o is h kept e =
-    let q = p.asked i (ap holds_complex (sym is) ∙ h) in
-    rw (e, is) (laying-next holds_complex no_complex 32 complex_in complex_put OutsideComplexes complex-rows a b l i m lt (ap holds_complex (sym is) ∙ h)
-    (complex-back b i (get_or l i no_complex) m.long lt q.0.series q.0.side q.1.series q.1.side (rw is at kept)))
-
-pub complexes-last : (a b : List ℕ) (l : List Complex) (i : ℕ) → LayingComplexes a b l i → length l ≡ 32 → i ≤ 32 →
-    ((k : ℕ) → i ≤ k → get_or l k no_complex ≡ no_complex) → ComplexesLoaded a l (set b complexes_used_at i)
-complexes-last a b l i m n few rest =
-    let s = complexes-set a b l i m.long few (wider (omega arith) (omega arith) m.outside)
-    (laid holds_complex no_complex 32 complex_in complex_put OutsideComplexes complex-rows a b l i m n few rest) m.full in
+pub complexes-last : (a b : List ℕ) (l : List Complex) (i : ℕ) → length l ≡ 32 → BookLaid holds_complex no_complex complex_in OutsideComplexes 32 a b l i → ComplexesLoaded a l (set b complexes_used_at i)
+complexes-last a b l i n m =
+    let w = m.laying in
+    let s = complexes-set a b l i w.long m.few (wider (omega arith) (omega arith) w.outside)
+    (laid holds_complex no_complex 32 complex_in complex_put OutsideComplexes complex-rows a b l i w n m.few m.rest) w.full in
     record { venue = s.venue; regulars = s.regulars; filled = s.filled }
 
 -- Whole parts, place by place -----------------------------------------------------------------

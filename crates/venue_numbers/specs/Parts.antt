@@ -1,8 +1,8 @@
 -- A part of a venue: a list that a venue has, and that another may stand in the place of.
-use Rattle.std.specs.Prelude.{◌≡◌, refl, List, ℕ, length}
+use Rattle.std.specs.Prelude.{◌≡◌, refl, Bool, List, ℕ, ◌≤◌, ◌<◌, length, get_or}
 use Rattle.rules.specs.declared.Venue.{Venue}
 use Rattle.rules.specs.Words.{with_legging, with_series, with_editions, with_generations}
-use Rattle.places.specs.Layout.{regulars_used, complexes_used, legging_in, listed_in, edition_in, generations_in, venue_of}
+use Rattle.places.specs.Layout.{size, Filled, regulars_used, complexes_used, legging_in, listed_in, edition_in, generations_in, venue_of}
 use Rattle.places.proofs.Tables.{upto-length}
 
 -- from a to b as many places are in use as before
@@ -32,3 +32,19 @@ editions_part = record { again = λ v x y. refl; got = λ v x. refl; own = λ v.
 pub generations_part : PartOf with_generations (λ v. v.generations) 8
 unfolding with_generations venue_of
 generations_part = record { again = λ v x y. refl; got = λ v x. refl; own = λ v. refl; many = λ b. upto-length (generations_in b) 0 8 }
+
+-- A book laid among the numbers, row by row to the first free place ------------------------------
+
+-- the first i rows are l's
+pub record Laying {A : Type 0} (holds : A → Bool) (none : A) (row_in : List ℕ → ℕ → A) (Same : (i j : ℕ) (a b : List ℕ) → Type 0) (a b : List ℕ) (l : List A) (i : ℕ) : Type 0 where
+  pub before : length a ≡ size
+  pub long : length b ≡ size
+  pub same : (k : ℕ) → k < i → row_in b k ≡ get_or l k none
+  pub full : Filled holds (row_in b) i
+  pub outside : Same 0 i a b
+
+-- its first i rows are l's, and l's other places are free
+pub record BookLaid {A : Type 0} (holds : A → Bool) (none : A) (row_in : List ℕ → ℕ → A) (Same : (i j : ℕ) (a b : List ℕ) → Type 0) (many : ℕ) (a b : List ℕ) (l : List A) (i : ℕ) : Type 0 where
+  pub laying : Laying holds none row_in Same a b l i
+  pub few : i ≤ many
+  pub rest : (k : ℕ) → i ≤ k → get_or l k none ≡ none

@@ -1,12 +1,15 @@
 // A venue held by value, and the fresh one, laid out as the numbers of a slice (places' specs/Layout.antt).
 #![tactic(auto)]
 
-ghost use Rattle.std.specs.Prelude.{◌≡◌, ◌<◌, ℕ, List, length, set};
-ghost use Rattle.rules.specs.Words.{fresh_venue, with_legging, with_series, with_editions, with_generations};
+ghost use Rattle.std.specs.Prelude.{◌≡◌, ◌<◌, Bool, ℕ, List, length, set};
+ghost use Rattle.rules.specs.Words.{fresh_venue, no_regular, no_complex, with_legging, with_series, with_editions, with_generations};
 ghost use Rattle.rules.specs.Step.{mask};
-ghost use Rattle.places.specs.Layout.{size, venue_of, bit_of, ComplexesPlaced, RegularsPlaced, Loadable};
-ghost use Rattle.venue_numbers.specs.Parts.{SameUsed, PartOf, legging_part, series_part, editions_part, generations_part};
-ghost use Rattle.places.specs.Layout.{RegularsLoaded, ComplexesLoaded, BesideCounted, Laid, Loaded};
+ghost use Rattle.rules.specs.Places.{holds_regular, holds_complex};
+ghost use Rattle.places.specs.Layout.{size, regular_in, complex_in, regular_put, venue_of, bit_of, OnSide, Bounded, Placed, Loadable};
+ghost use Rattle.places.proofs.Parts.{OutsideRows};
+ghost use Rattle.place_writes.specs.Moving.{Rows, complex_put, OutsideComplexes};
+ghost use Rattle.venue_numbers.specs.Parts.{SameUsed, BookLaid, PartOf, legging_part, series_part, editions_part, generations_part};
+ghost use Rattle.places.specs.Layout.{BesideCounted, Laid, Loaded};
 ghost use Rattle.rules.specs.declared.Venue.{Venue};
 
 use places::Numbers;
@@ -28,36 +31,106 @@ pub fn fresh_numbers() -> [u32; places::SIZE]
 
 // A venue's numbers, part by part -------------------------------------------------------------
 
-// Places are read until the first free one.
-fn load_regulars(numbers: &mut Numbers, l: &[Regular; 128])
-    requires { RegularsPlaced l.now }
-    ensures { RegularsLoaded numbers.old l.now numbers.new }
-{
-    for i in 0..128 {
-        let o = l[i];
-        if o.quantity == 0 {
-            numbers[places::REGULARS_USED_AT] = i as u32;
-            return;
-        }
-        place_writes::write_regular(numbers, i, o);
-    }
-    numbers[places::REGULARS_USED_AT] = 128;
+// An order of either book, as it is laid among the numbers.
+trait Order: Copy {
+    // An order is held, and not free.
+    ghost holds: { Self → Bool };
+
+    // What stands at a place that is free.
+    ghost free: { Self };
+
+    // What a load asks of an order.
+    ghost asked: { Self → Type 0 };
+
+    // What stands at place `i` of the numbers.
+    ghost order_in: { List ℕ → ℕ → Self };
+
+    // The numbers with an order at place `i`.
+    ghost order_put: { List ℕ → ℕ → Self → List ℕ };
+
+    // Numbers are the same but for those of the places from one to below another.
+    ghost outside: { ℕ → ℕ → List ℕ → List ℕ → Type 0 };
+
+    // How many places there are.
+    ghost many: { ℕ };
+
+    // The order is held.
+    fn is_held(self) -> bool
+        ensures { result ≡ holds self };
+
+    // An order's numbers, at a place; they are read back.
+    fn write(self, numbers: &mut Numbers, i: usize)
+        requires { i < many }
+        ensures put { numbers.new ≡ order_put numbers.old i self }
+        ensures back { asked self → order_in numbers.new i ≡ self };
 }
 
-// Places are read until the first free one.
-fn load_complexes(numbers: &mut Numbers, l: &[Complex; 32])
-    requires { ComplexesPlaced l.now }
-    ensures { ComplexesLoaded numbers.old l.now numbers.new }
-{
-    for i in 0..32 {
-        let o = l[i];
-        if o.quantity == 0 {
-            numbers[places::COMPLEXES_USED_AT] = i as u32;
-            return;
-        }
-        place_writes::write_complex(numbers, i, o);
+impl Order for Regular {
+    ghost holds = { holds_regular };
+
+    ghost free = { no_regular };
+
+    ghost asked = { λ o. OnSide o.series o.side × Bounded o };
+
+    ghost order_in = { regular_in };
+
+    ghost order_put = { regular_put };
+
+    ghost outside = { OutsideRows };
+
+    ghost many = { 128 };
+
+    // A regular order has a quantity.
+    fn is_held(self) -> bool {
+        self.quantity != 0
     }
-    numbers[places::COMPLEXES_USED_AT] = 32;
+
+    // A regular order, at its place.
+    fn write(self, numbers: &mut Numbers, i: usize) {
+        place_writes::write_regular(numbers, i, self);
+    }
+}
+
+impl Order for Complex {
+    ghost holds = { holds_complex };
+
+    ghost free = { no_complex };
+
+    ghost asked = { λ c. OnSide c.series1 c.side1 × OnSide c.series2 c.side2 };
+
+    ghost order_in = { complex_in };
+
+    ghost order_put = { complex_put };
+
+    ghost outside = { OutsideComplexes };
+
+    ghost many = { 32 };
+
+    // A complex order has a quantity.
+    fn is_held(self) -> bool {
+        self.quantity != 0
+    }
+
+    // A complex order, at its place.
+    fn write(self, numbers: &mut Numbers, i: usize) {
+        place_writes::write_complex(numbers, i, self);
+    }
+}
+
+// The orders of a book written among the numbers, to the first free place. The places in use are returned.
+fn load_book<T: Order>(numbers: &mut Numbers, l: &[T]) -> usize
+    requires many { length l.now ≡ T.many }
+    requires placed { Placed T.holds T.free T.asked l.now }
+    requires rows { Rows T.many T.order_in T.order_put T.outside }
+    ensures { BookLaid T.holds T.free T.order_in T.outside T.many numbers.old numbers.new l.now result }
+{
+    for (i, o) in l.iter().enumerate() {
+        if !o.is_held() {
+            return i;
+        }
+        o.write(numbers, i);
+    }
+    l.len()
 }
 
 // What stands in a part of a venue, place by place.
@@ -191,8 +264,10 @@ pub fn load(numbers: &mut Numbers, v: Venue)
 {
     load_part(numbers, &v.generations);
     place_writes::put_reached(numbers, v.reached);
-    load_regulars(numbers, &v.regular);
-    load_complexes(numbers, &v.complex);
+    let regulars = load_book(numbers, &v.regular);
+    numbers[places::REGULARS_USED_AT] = regulars as u32;
+    let complexes = load_book(numbers, &v.complex);
+    numbers[places::COMPLEXES_USED_AT] = complexes as u32;
     load_part(numbers, &v.legging);
     load_part(numbers, &v.series);
     load_part(numbers, &v.editions);
