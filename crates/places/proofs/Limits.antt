@@ -1,45 +1,16 @@
--- A limit is kept 2^31 above its value: every u32 is then an i32, and back.
+-- A limit is kept 2^31 above its value: 2^31 above an i32 is a u32.
 use mathlib.Core.Path.{◌≡◌, refl, sym, ap, ◌∙◌}
 use mathlib.Core.Bool.{Bool, true, false, cond}
 use Prim.Native.Nat.{ℕ, suc, ◌+◌, ◌-◌, ◌<◌}
 use native.Mathlib.Omega.{arith}
-use borrow.Author.Tests.{ltb-true, ltb-false}
+use borrow.Author.Tests.{ltb-true}
 use lib.Dec.{T, ltb}
 use lib.IntN.{ℤ, pos, negsuc, nat_abs, ◌+ℤ◌, ◌-ℤ◌, +ℤ-neg_ℤ_cancel}
 use mir.Syntax.{w32, w64}
 use lib.Signed.{non_neg}
 use mir.Val.{Fits, SFits, to_z, of_z}
 use mir.ValLaws.{to_z-of_z}
-use Rattle.rules.proofs.Machine.{cast-of}
 use Rattle.places.specs.Layout.{limit_number}
-
-fits32-if : (x : ℕ) (t : Bool) → ltb x 2147483648 ≡ t → x < 4294967296 → SFits w32 (cond t (negsuc (2147483648 - suc x)) (pos (x - 2147483648)))
-fits32-if x true e h = let z = ltb-true x 2147483648 e in record { sfits = omega arith }
-fits32-if x false e h = let z = ltb-false x 2147483648 e in record { sfits = omega arith }
-
-fits64-if : (x : ℕ) (t : Bool) → ltb x 2147483648 ≡ t → x < 4294967296 → SFits w64 (cond t (negsuc (2147483648 - suc x)) (pos (x - 2147483648)))
-fits64-if x true e h = let z = ltb-true x 2147483648 e in record { sfits = omega arith }
-fits64-if x false e h = let z = ltb-false x 2147483648 e in record { sfits = omega arith }
-
-pub limit-fits32 : (x : ℕ) → x < 4294967296 → SFits w32 (pos x -ℤ pos 2147483648)
-limit-fits32 x h = fits32-if x (ltb x 2147483648) refl h
-
-limit-fits64 : (x : ℕ) → x < 4294967296 → SFits w64 (pos x -ℤ pos 2147483648)
-limit-fits64 x h = fits64-if x (ltb x 2147483648) refl h
-
-pub sub-fits : (x : ℕ) → x < 4294967296 → SFits w64 (to_z w64 x -ℤ pos 2147483648)
-sub-fits x h = rw (cast-of x (omega arith)) (limit-fits64 x h)
-
-pub sub_is : (x : ℕ) → x < 4294967296 → to_z w64 (of_z w64 (to_z w64 x -ℤ pos 2147483648)) ≡ pos x -ℤ pos 2147483648
-sub_is x h = to_z-of_z w64 (to_z w64 x -ℤ pos 2147483648) (sub-fits x h) ∙ ap (λ (z : ℤ). z -ℤ pos 2147483648) (cast-of x (omega arith))
-
-pub cast_fits : (x : ℕ) → x < 4294967296 → SFits w32 (to_z w64 (of_z w64 (to_z w64 x -ℤ pos 2147483648)))
-cast_fits x h = rw (sub_is x h) (limit-fits32 x h)
-
-pub cast_is : (x : ℕ) → x < 4294967296 → to_z w32 (of_z w32 (to_z w64 (of_z w64 (to_z w64 x -ℤ pos 2147483648)))) ≡ pos x -ℤ pos 2147483648
-cast_is x h = to_z-of_z w32 (to_z w64 (of_z w64 (to_z w64 x -ℤ pos 2147483648))) (cast_fits x h) ∙ sub_is x h
-
--- And back: 2^31 above an i32 is a u32 ----------------------------------------------------------
 
 pub record Above (z : ℤ) : Type 0 where
   pub number : ℕ

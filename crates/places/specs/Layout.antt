@@ -30,7 +30,7 @@ use Rattle.rules.specs.declared.Edition.{Edition}
 use Rattle.rules.specs.declared.Generations.{Generations}
 use Rattle.rules.specs.declared.Venue.{Venue}
 use Rattle.places.specs.declared.Level.{Level}
-use Rattle.rules.specs.Words.{opposite, place_of, no_regular, no_complex, with_regular, with_complex, with_editions}
+use Rattle.rules.specs.Words.{opposite, place_of, no_regular, no_complex, with_regular, with_complex}
 use Rattle.rules.specs.Base.{held, keep}
 use Rattle.rules.specs.Settings.{base_figure, sets, figure_now, increment}
 use Rattle.rules.specs.Prices.{best_in, size_in}
@@ -357,12 +357,6 @@ pub record ComplexesLoaded (a : List ℕ) (l : List Complex) (b : List ℕ) : Ty
   pub venue : venue_of b ≡ with_complex (venue_of a) l
   pub regulars : regulars_used b ≡ regulars_used a
   pub filled : Filled holds_complex (complex_in b) (complexes_used b)
-
--- from a to b the editions become l
-pub record EditionsLoaded (a : List ℕ) (l : List Edition) (b : List ℕ) : Type 0 where
-  pub venue : venue_of b ≡ with_editions (venue_of a) l
-  pub regulars : regulars_used b ≡ regulars_used a
-  pub complexes : complexes_used b ≡ complexes_used a
 
 -- from a to b mask and figures are counted, no place is known to be held, and the flag is 0; so what is known is right where no increment is 0
 -- and every order shows what it should

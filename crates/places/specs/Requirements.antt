@@ -1,15 +1,14 @@
 -- What the functions on the numbers require, each part by its name.
-use Rattle.std.specs.Prelude.{◌≡◌, true, false, ◌||◌, ◌⊎◌, List, ℕ, ◌<◌, ◌≤◌, length}
+use Rattle.std.specs.Prelude.{◌≡◌, true, false, ◌||◌, ◌⊎◌, List, ℕ, ◌<◌, ◌≤◌}
 use Rattle.rules.specs.Base.{held}
 use Rattle.rules.specs.Complex.{rests_regular, rests_complex}
 use Rattle.rules.specs.Places.{holds_edition}
 use Rattle.rules.specs.Sound.{shows_fully}
 use Rattle.rules.specs.Refusals.{regular_in_range}
-use Rattle.places.specs.Layout.{size, Right, Dense, Marked, Figured, regulars_used, complexes_used, none_shows_again, edition_in, venue_of, Below, Loadable, RegularsPlaced, ComplexesPlaced}
+use Rattle.places.specs.Layout.{Right, Dense, Figured, regulars_used, complexes_used, none_shows_again, edition_in, venue_of, Below}
 use Rattle.rules.specs.declared.Regular.{Regular}
 use Rattle.rules.specs.declared.Complex.{Complex}
 use Rattle.rules.specs.declared.Edition.{Edition}
-use Rattle.rules.specs.declared.Venue.{Venue}
 use Rattle.rules.specs.Settings.{free_edition}
 
 -- a whole slice and two regular places in use
@@ -73,16 +72,6 @@ pub record RightRegular (b : List ℕ) (i : ℕ) : Type 0 where
 pub record RightComplex (b : List ℕ) (i : ℕ) : Type 0 where
   pub right : Right b
   pub in_use : i < complexes_used b
-
--- n regular places are in use, and what is known of the places holds
-pub record CountedRegulars (b : List ℕ) (n : ℕ) : Type 0 where
-  pub count : n ≡ regulars_used b
-  pub marked : Marked b
-
--- n complex places are in use, and what is known of the places holds
-pub record CountedComplexes (b : List ℕ) (n : ℕ) : Type 0 where
-  pub count : n ≡ complexes_used b
-  pub marked : Marked b
 
 -- a free regular place for o
 pub record RegularRoom (b : List ℕ) (o : Regular) : Type 0 where

@@ -243,7 +243,7 @@ pub fn none_shows_again(numbers: &Numbers) -> bool
 fn limit_of(x: u32) -> i32
     ensures { result ≡ pos x -ℤ pos 2147483648 }
 {
-    ((x as i64) - 2147483648) as i32
+    (i64::from(x) - 2147483648) as i32
 }
 
 // What stands at a complex place.

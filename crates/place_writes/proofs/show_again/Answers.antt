@@ -1,17 +1,11 @@
 -- `place_writes::show_again` meets its contract.
 use native.Mathlib.Omega.{arith}
-use Rattle.place_writes.proofs.Again.{again-start, again-next, again-end}
+use Rattle.place_writes.proofs.Again.{again-next, again-end}
 use Rattle.place_writes.proofs.show_again.Goals as goal
 
 -- each clause by its name
 each : {A B : Type 0} → A × B → record { numbers_after : A; beside : B }
 each h = record { numbers_after = h.0; beside = h.1 }
-
-pub loop-i-init : goal.loop-i-init
-loop-i-init c = (c.told-numbers, again-start _ c.told-numbers)
-
-pub regular_at-o-requires : goal.regular_at-o-requires
-regular_at-o-requires c = omega arith
 
 pub loop-i-preserved : goal.loop-i-preserved
 loop-i-preserved c = let m = again-next _ _ _ c.regular_at-o.result _ c.loop-i.invariant.1 (omega arith)
