@@ -175,8 +175,7 @@ pub fn levels(numbers: &Numbers) -> [[Level; 2]; 8]
     for s in 0..8 {
         let bids = places::level_at(numbers, 2 * s);
         let offers = places::level_at(numbers, 2 * s + 1);
-        g[s][0] = bids;
-        g[s][1] = offers;
+        g[s] = [bids, offers];
     }
     g
 }

@@ -15,15 +15,6 @@ level_at-offers-requires c = omega (arith, c.loop-s-test.true)
 pub bounds-g-s : goal.bounds-g-s
 bounds-g-s c = omega (arith, c.loop-s.invariant.long, c.loop-s-test.true)
 
-pub bounds-g-0 : goal.bounds-g-0
-bounds-g-0 c = omega (arith, c.loop-s.invariant.rows c.loop-s.s c.loop-s-test.true)
-
-pub bounds-g-s-in-loop-s : goal.bounds-g-s-in-loop-s
-bounds-g-s-in-loop-s c = omega (arith, c.loop-s.invariant.long, c.loop-s-test.true)
-
-pub bounds-g-1 : goal.bounds-g-1
-bounds-g-1 c = omega (arith, c.loop-s.invariant.rows c.loop-s.s c.loop-s-test.true)
-
 pub loop-s-preserved : goal.loop-s-preserved
 loop-s-preserved c = filling-turn _ _ _ c.loop-s.invariant c.loop-s-test.true _ _ c.level_at-bids.ensures c.level_at-offers.ensures
 
