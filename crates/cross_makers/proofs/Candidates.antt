@@ -1,4 +1,5 @@
 -- Who crosses with whom, test by test, and who goes first.
+use Rattle.std.specs.Prelude.{Option, Some, None}
 use mathlib.Core.Path.{◌≡◌, refl, sym, ap, ◌∙◌}
 use mathlib.Core.Bool.{Bool, true, false, not, ◌&&◌}
 use mathlib.Core.List.{List}
@@ -16,8 +17,6 @@ use Rattle.rules.specs.Prices.{best_regular, weighed, net, in_band}
 use Rattle.rules.specs.Complex.{reversed, respects_legs, crosses, limit_then_id}
 use Rattle.rules.proofs.Tests.{not-out}
 use Rattle.places.specs.Layout.{upto, complexes_used, complex_in, venue_of}
-use Rattle.cross_makers.specs.declared.Maker.{Maker}
-use Rattle.cross_makers.specs.declared.Maker.TheVariants.{Nobody, At}
 use Rattle.cross_makers.specs.Picks.{picked_of}
 use Rattle.levels.proofs.Scanning.{first-used}
 
@@ -100,17 +99,17 @@ module _ (a m : Complex) where
   unfolding limit_then_id earlier_complex
   rank-equal h k = rw (h, k)
 
-module _ (best : Maker) (n : ℕ) (m : Complex) where
-  pub pick-none : best ≡ Nobody → picked_of (At n m) ≡ ranked limit_then_id n m (picked_of best)
+module _ (best : Option (ℕ × Complex)) (n : ℕ) (m : Complex) where
+  pub pick-none : best ≡ None → picked_of (Some (n, m)) ≡ ranked limit_then_id n m (picked_of best)
   unfolding picked_of ranked
   pick-none e = rw e
 
-  module _ (i : ℕ) (a : Complex) (e : best ≡ At i a) where
-    pub pick-kept : limit_then_id a m ≡ true → picked_of (At i a) ≡ ranked limit_then_id n m (picked_of best)
+  module _ (i : ℕ) (a : Complex) (e : best ≡ Some (i, a)) where
+    pub pick-kept : limit_then_id a m ≡ true → picked_of (Some (i, a)) ≡ ranked limit_then_id n m (picked_of best)
     unfolding picked_of ranked
     pick-kept h = rw (e, h)
 
-    pub pick-new : limit_then_id a m ≡ false → picked_of (At n m) ≡ ranked limit_then_id n m (picked_of best)
+    pub pick-new : limit_then_id a m ≡ false → picked_of (Some (n, m)) ≡ ranked limit_then_id n m (picked_of best)
     unfolding picked_of ranked
     pick-new h = rw (e, h)
 

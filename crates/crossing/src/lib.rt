@@ -14,7 +14,6 @@ ghost use Rattle.levels.specs.Requirements.{TakenReady};
 ghost use Rattle.places.specs.Requirements.{ComplexesReady, RightComplex};
 
 use arithmetic::{lesser, limit_of};
-use cross_makers::Maker;
 use levels::TakenLevels;
 use places::Numbers;
 use rules::{Cause, Complex};
@@ -50,7 +49,7 @@ pub fn cross_all(numbers: &mut Numbers, i: usize, out: &mut [u8], at: usize) -> 
             return pos;
         }
         let found = cross_makers::first_cross(numbers, c);
-        let Maker::At(j, m) = found else {
+        let Some((j, m)) = found else {
             return pos;
         };
         pos = cross(numbers, i, j, lesser(c.quantity, m.quantity), out, pos);

@@ -14,7 +14,6 @@ ghost use Rattle.matching.specs.Turns.{turn_of, InUse};
 ghost use Rattle.places.specs.Requirements.{RightRegular, DenseOrder};
 
 use arithmetic::lesser;
-use book::Pick;
 use places::Numbers;
 use rules::{Legging, Regular};
 
@@ -82,13 +81,13 @@ fn decide(numbers: &Numbers, i: usize) -> Plan
     let l = facing(numbers, o.series, o.side);
     let found = book::first_met(numbers, o.series, o.side, o.price);
     match found {
-        Pick::Nobody => {
+        None => {
             if legging_first(o, l, 0) {
                 return Plan::Hit(l, lesser(o.quantity, l.quantity));
             }
             Plan::Ended
         }
-        Pick::At(j, m) => {
+        Some((j, m)) => {
             if legging_first(o, l, m.price) {
                 return Plan::Hit(l, lesser(o.quantity, l.quantity));
             }

@@ -14,7 +14,6 @@ ghost use Rattle.trades.specs.Hits.{pairing_of};
 ghost use Rattle.places.specs.Requirements.{RegularsReady, RightRegular};
 
 use arithmetic::opposite_of;
-use book::{Found, Pick};
 use places::Numbers;
 use rules::{Cause, Legging};
 
@@ -67,7 +66,7 @@ pub fn trade_at_price(
     let mut left = quantity;
     while 0 < left {
         let found = book::first_for(numbers, series, other, price);
-        let Pick::At(j, m) = found else {
+        let Some((j, m)) = found else {
             return pos;
         };
         let k = at_most(arithmetic::shown_size(m), left);
@@ -141,11 +140,7 @@ fn pairing_of(numbers: &Numbers, l: Legging, series: u8, side: u8) -> Pairing
 fn place_or_end(numbers: &Numbers, id: u32) -> usize
     ensures { result ≡ complex_place (venue_of numbers.now) id }
 {
-    let found = book::complex_place(numbers, id);
-    match found {
-        Found::At(j) => j,
-        Found::Nothing => 32,
-    }
+    book::complex_place(numbers, id).unwrap_or(32)
 }
 
 // The order at place i hits a legging order for k contracts: the trade, then the pairing.

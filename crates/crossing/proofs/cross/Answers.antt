@@ -5,13 +5,6 @@ use Rattle.rules.proofs.Machine.{back}
 use Rattle.places.proofs.Parts.{complexes-few, complex-at}
 use Rattle.places.proofs.Beside.{counts-on}
 use Rattle.crossing.proofs.CrossLaws.{cross-law}
-use Rattle.crossing.proofs.cross.Reads as reads
-use Rattle.crossing.proofs.cross.Lts as lts
-use Rattle.cross_makers.proofs.net_against.Reads as net-against-reads
-use Rattle.places.proofs.complex_at.Reads as complex-at-reads
-use Rattle.place_writes.proofs.fill_complex.Reads as fill-complex-reads
-use Rattle.removal.proofs.remove_of.Reads as remove-of-reads
-use Rattle.records.proofs.emit_crossed.Reads as emit-crossed-reads
 use Rattle.crossing.proofs.cross.Goals as goal
 
 pub complex_at-c-requires : goal.complex_at-c-requires

@@ -11,11 +11,6 @@ use Rattle.levels.specs.Grid.{LegsIn}
 use Rattle.prices.proofs.Prices.{legs-in}
 use Rattle.cross_makers.specs.Picks.{picked_of}
 use Rattle.crossing.proofs.CrossLaws.{cross-idle, cross-nobody, cross-some, picked-used}
-use Rattle.crossing.proofs.cross_all.Reads as reads
-use Rattle.crossing.proofs.cross_all.Lts as lts
-use Rattle.crossing.proofs.cross.Reads as cross-reads
-use Rattle.cross_makers.proofs.first_cross.Reads as first-cross-reads
-use Rattle.places.proofs.complex_at.Reads as complex-at-reads
 use Rattle.crossing.proofs.cross_all.Goals as goal
 
 pub complex_at-taker-requires : goal.complex_at-taker-requires
@@ -85,7 +80,7 @@ cross-pos-requires c = record {
     c.requires.in_use,
   );
   second = picked-used c.loop-turns.numbers _ _ _
-      (sym (ap picked_of c.in-At.is)
+      (sym (ap picked_of c.in-Some.is)
       ∙ c.first_cross-found.ensures);
 }
 
@@ -108,7 +103,7 @@ loop-turns-preserved c = doing-turn
       c.requires.in_use,
     ))))
     c.if-c-eq0.false _ _ _
-    (sym (ap picked_of c.in-At.is)
+    (sym (ap picked_of c.in-Some.is)
     ∙ c.first_cross-found.ensures)
     c.lesser.ensures)) (omega arith)
     c.cross-pos.ensures.result_after c.cross-pos.ensures.counts

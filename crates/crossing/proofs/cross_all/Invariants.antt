@@ -3,11 +3,6 @@ use Rattle.removal.proofs.Loops.{Doing}
 use Rattle.rules.specs.Words.{complex_at}
 use Rattle.rules.specs.Complex.{cross_turn}
 use Rattle.places.specs.Layout.{venue_of}
-use Rattle.crossing.proofs.cross_all.Reads as reads
-use Rattle.crossing.proofs.cross_all.Lts as lts
-use Rattle.crossing.proofs.cross.Reads as cross-reads
-use Rattle.cross_makers.proofs.first_cross.Reads as first-cross-reads
-use Rattle.places.proofs.complex_at.Reads as complex-at-reads
 use Rattle.crossing.proofs.cross_all.Given as goal
 
 abbrev pub invariant-loop-turns : goal.invariant-loop-turns

@@ -1,15 +1,10 @@
 -- `orders::cancel` meets its contract.
-use mathlib.Core.Path.{◌∙◌}
 use Rattle.rules.specs.Standing.{settle}
 use Rattle.rules.specs.Complex.{cancel}
 use Rattle.records.proofs.StageLaws.{follow}
 use Rattle.places.specs.Layout.{venue_of}
 use Rattle.orders.specs.Effects.{withdrawn}
 use Rattle.places.proofs.Beside.{counts-on}
-use Rattle.orders.proofs.cancel.Reads as reads
-use Rattle.orders.proofs.cancel.Lts as lts
-use Rattle.orders.proofs.withdraw.Reads as withdraw-reads
-use Rattle.settling.proofs.settle_all.Reads as settle-all-reads
 use Rattle.orders.proofs.cancel.Goals as goal
 
 pub settle_all-requires : goal.settle_all-requires

@@ -1,14 +1,9 @@
 -- `orders::order` meets its contract.
-use mathlib.Core.Path.{◌∙◌}
 use Rattle.rules.specs.Standing.{settle}
 use Rattle.rules.specs.Order.{enter_regular, order}
 use Rattle.records.proofs.StageLaws.{follow}
 use Rattle.places.specs.Layout.{venue_of}
 use Rattle.orders.proofs.OrderLaws.{counts-more}
-use Rattle.orders.proofs.order.Reads as reads
-use Rattle.orders.proofs.order.Lts as lts
-use Rattle.settling.proofs.settle_all.Reads as settle-all-reads
-use Rattle.matching.proofs.enter_regular.Reads as enter-regular-reads
 use Rattle.orders.proofs.order.Goals as goal
 
 pub enter_regular-pos-requires : goal.enter_regular-pos-requires

@@ -7,10 +7,6 @@ use Rattle.records.specs.Seen.{seen}
 use Rattle.records.specs.Stage.{◌does◌}
 use Rattle.places.specs.Layout.{venue_of}
 use Rattle.orders.proofs.CancelLaws.{complex-found, complex-used, complex-not}
-use Rattle.orders.proofs.withdraw_complex.Reads as reads
-use Rattle.orders.proofs.withdraw_complex.Lts as lts
-use Rattle.book.proofs.complex_place.Reads as complex-place-reads
-use Rattle.trades.proofs.cancel_complex.Reads as cancel-complex-reads
 use Rattle.orders.proofs.withdraw_complex.Goals as goal
 
 -- each clause by its name
@@ -23,14 +19,14 @@ returns-in_default c = each (absurd (true≢false (sym c.requires ∙ complex-no
 
 pub cancel_complex-requires : goal.cancel_complex-requires
 cancel_complex-requires c = complex-used c.args.numbers.now c.args.id _
-      (sym c.in-At.is ∙ c.complex_place-found.ensures)
+    (sym c.in-Some.is ∙ c.complex_place-found.ensures)
 
 pub returns : goal.returns
 returns c = record {
   result_after = c.cancel_complex.ensures.result_after
       ∙ ap (λ (k : ℕ). seen c.args.out.now c.args.at does cancel_complex k (venue_of c.args.numbers.now))
       (sym (complex-found c.args.numbers.now c.args.id _
-      (sym c.in-At.is
+      (sym c.in-Some.is
       ∙ c.complex_place-found.ensures)).1);
   counts = c.cancel_complex.ensures.counts;
 }
