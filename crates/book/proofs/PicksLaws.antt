@@ -19,6 +19,7 @@ use Rattle.rules.specs.Sound.{shows_fully}
 use Rattle.rules.proofs.Picking.{At, Chosen, first-chosen}
 use Rattle.places.specs.Layout.{in_use, regulars_used, regular_in, regular_key, venue_of}
 use Rattle.places.proofs.Tables.{used-at, used-free}
+use Rattle.prices.specs.Picks.{choice_of}
 use Rattle.book.specs.Picks.{pick_of}
 
 -- What is picked ------------------------------------------------------------------------------
@@ -172,16 +173,18 @@ module _ (a m : Regular) where
     rank_same q t e = rw (h, eq-eqb a.price m.price q) e
 
 -- beside what was picked before
-module _ (best : Option (ℕ × Regular)) (n : ℕ) (m : Regular) where
-  pub pick-none : best ≡ None → (x : Choice Regular) → best ≡ pick_of x → Some (n, m) ≡ pick_of (ranked price_then_id n m x)
-  unfolding pick_of ranked
-  pick-none e x p = rw (nobody-is x (sym e ∙ p))
+pick-choice : (x : Option (ℕ × Regular)) → pick_of (choice_of x) ≡ x
+unfolding pick_of choice_of
+pick-choice None = refl
+pick-choice (Some x) = refl
 
-  module _ (i : ℕ) (a : Regular) (e : best ≡ Some (i, a)) (x : Choice Regular) (p : best ≡ pick_of x) where
-    pub pick-kept : price_then_id a m ≡ true → Some (i, a) ≡ pick_of (ranked price_then_id n m x)
-    unfolding pick_of ranked
-    pick-kept h = rw (picked-is x i a (sym e ∙ p), h)
+choice-pick : (x : Choice Regular) → choice_of (pick_of x) ≡ x
+unfolding pick_of choice_of
+choice-pick nobody = refl
+choice-pick (picked i o) = refl
 
-    pub pick-new : price_then_id a m ≡ false → Some (n, m) ≡ pick_of (ranked price_then_id n m x)
-    unfolding pick_of ranked
-    pick-new h = rw (picked-is x i a (sym e ∙ p), h)
+pub pick-ranked : (best r : Option (ℕ × Regular)) (n : ℕ) (m : Regular) → choice_of r ≡ ranked price_then_id n m (choice_of best) →
+    (x : Choice Regular) → best ≡ pick_of x → r ≡ pick_of (ranked price_then_id n m x)
+pick-ranked best r n m e x p =
+    sym (pick-choice r)
+    ∙ ap pick_of (e ∙ ap (λ (b : Option (ℕ × Regular)). ranked price_then_id n m (choice_of b)) p ∙ ap (ranked price_then_id n m) (choice-pick x))

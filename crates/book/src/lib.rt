@@ -4,8 +4,7 @@
 
 ghost use Rattle.std.specs.Prelude.{◌≡◌};
 ghost use Rattle.std.specs.Int.Count.{ones};
-ghost use Rattle.rules.specs.declared.Regular.{Regular};
-ghost use Rattle.rules.specs.Base.{Choice, ranked, first};
+ghost use Rattle.rules.specs.Base.{first};
 ghost use Rattle.rules.specs.Words.{earlier};
 ghost use Rattle.rules.specs.Prices.{shows_for};
 ghost use Rattle.rules.specs.Order.{is_met, shown_then_id, price_then_id};
@@ -110,21 +109,6 @@ fn ranks_before(a: Regular, m: Regular) -> bool
     shows_first(a, m)
 }
 
-// The order m at place n, beside the first in rank of those after it.
-fn better_pick(best: Option<(usize, Regular)>, n: usize, m: Regular) -> Option<(usize, Regular)>
-    ensures { (x : Choice Regular) → best ≡ pick_of x → result ≡ pick_of (ranked price_then_id n m x) }
-{
-    match best {
-        None => Some((n, m)),
-        Some((i, a)) => {
-            if ranks_before(a, m) {
-                return Some((i, a));
-            }
-            Some((n, m))
-        }
-    }
-}
-
 // The same where some order may show nothing of what is left of it: the first in rank of all that are met.
 fn first_ranked(numbers: &Numbers, series: u8, side: u8, price: u32) -> Option<(usize, Regular)>
     ensures { result ≡ pick_of (first (is_met series side price) price_then_id (venue_of numbers.now).regular) }
@@ -140,7 +124,7 @@ fn first_ranked(numbers: &Numbers, series: u8, side: u8, price: u32) -> Option<(
         if !is_met(m, series, side, price) {
             continue;
         }
-        best = better_pick(best, i, m);
+        best = prices::better(best, i, m, ranks_before);
     }
     best
 }

@@ -130,21 +130,6 @@ pub fn crosses_before(a: Complex, m: Complex) -> bool
     a.id < m.id
 }
 
-// The candidate m at place n, beside the best of those after it.
-fn better_maker(best: Option<(usize, Complex)>, n: usize, m: Complex) -> Option<(usize, Complex)>
-    ensures { picked_of result ≡ ranked limit_then_id n m (picked_of best) }
-{
-    match best {
-        None => Some((n, m)),
-        Some((i, a)) => {
-            if crosses_before(a, m) {
-                return Some((i, a));
-            }
-            Some((n, m))
-        }
-    }
-}
-
 // A key is one of two.
 fn is_either(key: usize, one: usize, two: usize) -> bool
     ensures { result ≡ (eqb key one || eqb key two) }
@@ -172,7 +157,7 @@ pub fn first_cross(numbers: &Numbers, c: Complex) -> Option<(usize, Complex)>
         if !can_cross(numbers, c, m) {
             continue;
         }
-        best = better_maker(best, i, m);
+        best = prices::better(best, i, m, crosses_before);
     }
     best
 }

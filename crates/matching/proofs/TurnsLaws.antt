@@ -3,7 +3,7 @@ use Rattle.std.specs.Prelude.{if◌then◌else◌, Option, Some, None}
 use mathlib.Core.Path.{◌≡◌, refl, sym, ap, ◌∙◌}
 use mathlib.Core.Bool.{Bool, true, false, not}
 use mathlib.Core.List.{List}
-use Prim.Native.Nat.{ℕ, zero, suc, ◌-◌, ◌≤◌, ◌<◌, min}
+use Prim.Native.Nat.{ℕ, zero, suc, ◌≤◌, ◌<◌, min}
 use native.Mathlib.Omega.{arith}
 use lib.ListN.{length}
 use borrow.Author.Tests.{eq-eqb, ne_eqb}
@@ -156,12 +156,12 @@ module _ {turn : Venue → Turn} {k : ℕ} {b₀ out₀ b out : List ℕ} {at po
   pub turning-stop : ended ≡ turn (venue_of b) → (stage (venue_of b) out pos ≡ seen out₀ at does repeat k turn (venue_of b₀)) × SameCounts b₀ b
   turning-stop e = turned-out (repeat-stop turn (venue_of b) turns e)
 
-  pub turning-turn : (e : Effect) (b₁ out₁ : List ℕ) (pos₁ : ℕ) → 0 < turns → turned e ≡ turn (venue_of b) → length b₁ ≡ length b →
-      (stage (venue_of b₁) out₁ pos₁ ≡ seen out pos does e) × SameCounts b b₁ → Turning turn k b₀ out₀ at b₁ out₁ pos₁ (turns - 1)
-  turning-turn e b₁ out₁ pos₁ h q n w = record {
+  pub turning-turn : (e : Effect) (b₁ out₁ : List ℕ) (pos₁ next : ℕ) → suc next ≡ turns → turned e ≡ turn (venue_of b) → length b₁ ≡ length b →
+      (stage (venue_of b₁) out₁ pos₁ ≡ seen out pos does e) × SameCounts b b₁ → Turning turn k b₀ out₀ at b₁ out₁ pos₁ next
+  turning-turn e b₁ out₁ pos₁ next h q n w = record {
     whole = n ∙ i.whole;
     counts = counts-on b₀ b b₁ i.counts w.1;
-    rest = repeat-turn turn (venue_of b) turns (turns - 1) e (venue_of b₁) out₁ out pos₁ pos (omega arith) q w.0 ∙ i.rest;
+    rest = repeat-turn turn (venue_of b) turns next e (venue_of b₁) out₁ out pos₁ pos h q w.0 ∙ i.rest;
   }
 
   pub turning-room : length out ≡ length out₀

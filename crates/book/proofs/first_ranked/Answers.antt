@@ -2,8 +2,8 @@
 use mathlib.Core.Path.{◌≡◌, sym, ap, ◌∙◌}
 use native.Mathlib.Omega.{arith}
 use Rattle.rules.specs.Words.{place_of}
-use Rattle.rules.specs.Order.{is_met}
-use Rattle.book.proofs.PicksLaws.{met-key}
+use Rattle.rules.specs.Order.{is_met, price_then_id}
+use Rattle.book.proofs.PicksLaws.{met-key, pick-ranked}
 use Rattle.book.proofs.Ranking.{met_start, met-past, met-join, met_all}
 use borrow.Author.Rules.{rules}
 use Rattle.book.proofs.first_ranked.Goals as goal
@@ -37,7 +37,7 @@ loop-i-preserved c =
     let a = c.args in
     met-join a.numbers.now a.series a.side a.price _ _ c.loop-i-test.true (omega (arith, c.loop-i.auto.i, c.regulars_used-n.ensures.0))
     c.loop-i.invariant _ c.regular_at-m.ensures
-    (sym c.is_met.ensures ∙ c.if-not-is_met.false) _ c.better_pick-best.ensures
+    (sym c.is_met.ensures ∙ c.if-not-is_met.false) _ (pick-ranked _ _ _ _ (c.better-best.ensures price_then_id (λ a r p. p)))
 
 pub returns : goal.returns
 returns c = let z : c.loop-i.i ≡ 0 = search rules in met_all c.args.numbers.now _ _ _ _ _ z c.loop-i.invariant

@@ -10,6 +10,7 @@ use Rattle.places.specs.Layout.{upto, complexes_used, complex_in, venue_of}
 use Rattle.places.proofs.Parts.{complexes-few}
 use Rattle.levels.specs.Grid.{LegsIn}
 use Rattle.prices.proofs.Prices.{legs-in}
+use Rattle.prices.specs.Picks.{choice_of}
 use Rattle.cross_makers.specs.Picks.{picked_of}
 use Rattle.levels.proofs.Scanning.{scan-start, scan-past, scan-join}
 use Rattle.cross_makers.proofs.Candidates.{off, on, first-crossed}
@@ -17,7 +18,7 @@ use Rattle.cross_makers.proofs.Keys.{cross-key}
 use Rattle.cross_makers.proofs.first_cross.Goals as goal
 
 pub loop-i-init : goal.loop-i-init
-unfolding picked_of
+unfolding picked_of choice_of
 loop-i-init c =
     let a = c.args in
     scan-start (crosses (venue_of a.numbers.now) a.c) limit_then_id (complex_in a.numbers.now) _ _ (omega (arith, c.complexes_used-n.ensures.0))
@@ -53,13 +54,14 @@ loop-i-preserved-then-not-can_cross c =
     (ap (crosses (venue_of a.numbers.now) a.c) (sym c.complex_at-m.ensures) ∙ off _ _ c.can_cross.ensures c.if-not-can_cross.true-raw)
 
 pub loop-i-preserved : goal.loop-i-preserved
+unfolding picked_of
 loop-i-preserved c =
     let a = c.args in
     let h = c.loop-i-test.true in
     let u : c.loop-i.i ≤ complexes_used a.numbers.now = omega (arith, c.loop-i.auto.i, c.complexes_used-n.ensures.0) in
     scan-join (crosses (venue_of a.numbers.now) a.c) limit_then_id (complex_in a.numbers.now) c.loop-i.i (complexes_used a.numbers.now) h u _ c.loop-i.invariant _
     (ap (crosses (venue_of a.numbers.now) a.c) (sym c.complex_at-m.ensures) ∙ on _ _ c.can_cross.ensures c.if-not-can_cross.false-raw)
-    (c.better_maker-best.ensures ∙ ap (λ (m : Complex). ranked limit_then_id (c.loop-i.i - 1) m (picked_of c.loop-i.best)) c.complex_at-m.ensures)
+    (c.better-best.ensures limit_then_id (λ a r p. p) ∙ ap (λ (m : Complex). ranked limit_then_id (c.loop-i.i - 1) m (picked_of c.loop-i.best)) c.complex_at-m.ensures)
 
 pub returns : goal.returns
 returns c =

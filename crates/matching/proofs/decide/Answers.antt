@@ -32,7 +32,7 @@ unfolding turn_of
 returns-then-legging_first c = (
   none-hit c.args.i (venue_of c.args.numbers.now) _ (c.regular_at-o.ensures ∙ sym (regular-at c.args.numbers.now c.args.i c.requires.in_use))
       _ c.if-o-eq0.false c.facing-l.ensures _ (sym c.in-None.is ∙ c.first_met-found.ensures)
-      (sym c.legging_first.ensures ∙ c.if-legging_first.true) c.lesser.ensures,
+      (sym c.legging_first.ensures ∙ c.if-legging_first.true) c.min.ensures,
   tt,
 )
 
@@ -41,7 +41,7 @@ unfolding turn_of
 returns-then-legging_first-2 c = (
   some-hit c.args.i (venue_of c.args.numbers.now) _ (c.regular_at-o.ensures ∙ sym (regular-at c.args.numbers.now c.args.i c.requires.in_use))
       _ c.if-o-eq0.false c.facing-l.ensures _ _ (sym c.in-Some.is ∙ c.first_met-found.ensures) _
-      (sym c.legging_first-in-Some.ensures ∙ c.if-legging_first-2.true) c.lesser-then-legging_first-2.ensures,
+      (sym c.legging_first-in-Some.ensures ∙ c.if-legging_first-2.true) c.min-then-legging_first-2.ensures,
   tt,
 )
 
@@ -60,6 +60,6 @@ returns-else-legging_first-2 c =
     let e = sym c.in-Some.is ∙ c.first_met-found.ensures in (
       some-meet c.args.i (venue_of c.args.numbers.now) _
           (c.regular_at-o.ensures ∙ sym (regular-at c.args.numbers.now c.args.i c.requires.in_use)) _ c.if-o-eq0.false c.facing-l.ensures _ _ e _ _
-          (sym c.legging_first-in-Some.ensures ∙ c.if-legging_first-2.false) c.at_once.ensures c.lesser-in-Some.ensures,
+          (sym c.legging_first-in-Some.ensures ∙ c.if-legging_first-2.false) c.at_once.ensures c.min-in-Some.ensures,
       met-used c.args.numbers.now _ _ _ _ _ e,
     )
