@@ -40,10 +40,7 @@ fn trade_with(
 pub fn at_most(q: u32, n: u64) -> u32
     ensures { result ≡ min q n }
 {
-    if n < (q as u64) {
-        return n as u32;
-    }
-    q
+    u64::from(q).min(n) as u32
 }
 
 // A taker of a side takes contracts that are shown at a price in a series, by id, until it has all or none are left there.
@@ -71,7 +68,7 @@ pub fn trade_at_price(
         };
         let k = at_most(arithmetic::shown_size(m), left);
         pos = trade_with(numbers, taker, side, j, k, out, pos);
-        left -= k as u64;
+        left -= u64::from(k);
     }
     pos
 }
@@ -154,7 +151,14 @@ pub fn hit(numbers: &mut Numbers, i: usize, l: Legging, k: u32, out: &mut [u8], 
     levels::fill_order(numbers, i, k);
     let traded = records::emit_trade(out, at, o.series, o.side, l.price, k, o.id, p.id);
     let taken = trade_at_price(
-        numbers, p.id, p.series, p.side, p.clear, k as u64, out, traded,
+        numbers,
+        p.id,
+        p.series,
+        p.side,
+        p.clear,
+        u64::from(k),
+        out,
+        traded,
     );
     let j = place_or_end(numbers, p.id);
     pair_off(numbers, j, p.id, p.net, k, out, taken)

@@ -32,13 +32,15 @@ overflow_sub-left c = omega (arith, c.at_most-k.ensures)
 
 pub loop-left-smaller : goal.loop-left-smaller
 loop-left-smaller c =
-    taking-less c.loop-left.invariant _ _ _ _ c.loop-left-test.true c.opposite_of-other.ensures (sym c.in-Some.is ∙ c.first_for-found.ensures)
-    _ c.shown_size.ensures c.at_most-k.ensures
+    rw c.from-left.ensures
+    (taking-less c.loop-left.invariant _ _ _ _ c.loop-left-test.true c.opposite_of-other.ensures (sym c.in-Some.is ∙ c.first_for-found.ensures)
+    _ c.shown_size.ensures c.at_most-k.ensures)
 
 pub loop-left-preserved : goal.loop-left-preserved
 loop-left-preserved c =
-    taking-turn c.loop-left.invariant _ _ _ _ c.loop-left-test.true c.opposite_of-other.ensures (sym c.in-Some.is ∙ c.first_for-found.ensures)
-    _ c.shown_size.ensures c.at_most-k.ensures _ _ _ (omega arith) (c.trade_with-pos.ensures.result_after, c.trade_with-pos.ensures.counts)
+    rw c.from-left.ensures
+    (taking-turn c.loop-left.invariant _ _ _ _ c.loop-left-test.true c.opposite_of-other.ensures (sym c.in-Some.is ∙ c.first_for-found.ensures)
+    _ c.shown_size.ensures c.at_most-k.ensures _ _ _ (omega arith) (c.trade_with-pos.ensures.result_after, c.trade_with-pos.ensures.counts))
 
 pub shape_of-out : goal.shape_of-out
 shape_of-out c = taking-room c.loop-left.invariant
