@@ -16,7 +16,7 @@ use places::Numbers;
 use rules::{Legging, Regular};
 
 // What the order at a place does next.
-#[derive(Clone, Copy)]
+#[derive(Clone, Copy, Debug, PartialEq, Eq)]
 pub enum Plan {
     Ended,
     Hit(Legging, u32),

@@ -103,7 +103,7 @@ pub fn pair_off(
 }
 
 // What a hit pairs: the complex order, its other leg with the clear price, and the net.
-#[derive(Clone, Copy)]
+#[derive(Clone, Copy, Debug, PartialEq, Eq)]
 pub struct Pairing {
     pub id: u32,
     pub series: u8,
