@@ -15,25 +15,19 @@ withdraw_complex-requires c = or_r (rests_regular (venue_of c.args.numbers.now) 
     (regular-not c.args.numbers.now c.args.id
     (sym c.in_default.is ∙ c.regular_place-found.ensures)) c.requires.rests
 
-pub returns-in_default : goal.returns-in_default
-returns-in_default c = record {
-  result_after = c.withdraw_complex.ensures.result_after ∙ ap (λ (e : Effect). seen c.args.out.now c.args.at does e)
-      (withdraw-other _ _ (regular-not c.args.numbers.now c.args.id
-      (sym c.in_default.is
-      ∙ c.regular_place-found.ensures)));
-  counts = c.withdraw_complex.ensures.counts;
-}
+pub returns-in_default-clause-result_after : goal.returns-in_default-clause-result_after
+returns-in_default-clause-result_after c = c.withdraw_complex.ensures.result_after ∙ ap (λ (e : Effect). seen c.args.out.now c.args.at does e)
+    (withdraw-other _ _ (regular-not c.args.numbers.now c.args.id
+    (sym c.in_default.is
+    ∙ c.regular_place-found.ensures)))
 
 pub cancel_regular-requires : goal.cancel_regular-requires
 cancel_regular-requires c = regular-used c.args.numbers.now c.args.id _
     (sym c.in-Some.is ∙ c.regular_place-found.ensures)
 
-pub returns : goal.returns
-returns c = record {
-  result_after = c.cancel_regular.ensures.result_after ∙ ap (λ (e : Effect). seen c.args.out.now c.args.at does e)
-      (withdraw-regular _ _ _
-      (regular-found c.args.numbers.now c.args.id _
-      (sym c.in-Some.is
-      ∙ c.regular_place-found.ensures)));
-  counts = c.cancel_regular.ensures.counts;
-}
+pub returns-clause-result_after : goal.returns-clause-result_after
+returns-clause-result_after c = c.cancel_regular.ensures.result_after ∙ ap (λ (e : Effect). seen c.args.out.now c.args.at does e)
+    (withdraw-regular _ _ _
+    (regular-found c.args.numbers.now c.args.id _
+    (sym c.in-Some.is
+    ∙ c.regular_place-found.ensures)))
