@@ -1,5 +1,5 @@
 -- Ids rise with the places, so the earliest order is the first of the list: who is taken and who is met first, and where an id stands.
-use Rattle.std.specs.Prelude.{if◌then◌else◌}
+use Rattle.std.specs.Prelude.{if◌then◌else◌, Some, None}
 use mathlib.Core.Path.{◌≡◌, refl, sym, ap, ◌∙◌}
 use mathlib.Core.Bool.{Bool, true, false, ◌&&◌, ◌||◌, true≢false}
 use mathlib.Core.List.{List, [], ◌∷◌}
@@ -26,8 +26,6 @@ use Rattle.rules.proofs.Finding.{where-passes, where-fits}
 use Rattle.places.specs.Layout.{regular_in, regulars_used, venue_of, Orderly, Right, Dense}
 use Rattle.places.proofs.Parts.{regulars-few}
 use Rattle.places.proofs.Tables.{used-at, used-free}
-use Rattle.book.specs.declared.Pick.TheVariants as pick
-use Rattle.book.specs.declared.Found.TheVariants as found
 use Rattle.book.specs.Picks.{pick_of, regular_found}
 use Rattle.book.proofs.FirstPlace.{where-first, found_in, found_at, found_none, regular-free}
 use Rattle.book.proofs.PicksLaws.{for-free}
@@ -220,15 +218,15 @@ module _ (b : List ℕ) where
   -- who is taken first
   module _ (right : Right b) (s d p : ℕ) where
     pub for-at : (i : ℕ) (o : Regular) → i < regulars_used b → o ≡ regular_in b i → shows_for s d p o ≡ true → ((j : ℕ) → j < i → shows_for s d p (regular_in b j) ≡ false) →
-        pick.At i o ≡ pick_of (first (shows_for s d p) earlier (venue_of b).regular)
+        Some (i, o) ≡ pick_of (first (shows_for s d p) earlier (venue_of b).regular)
     unfolding pick_of
     for-at i o h e shows none =
         let w = regular-there i h in
-        ap (pick.At i) (e ∙ sym w)
+        ap (λ (o : Regular). Some (i, o)) (e ∙ sym w)
         ∙ sym (ap pick_of (earliest-at s d p (venue_of b).regular right.orders i (ap (shows_for s d p) (w ∙ sym e) ∙ shows)
         (λ j q. ap (shows_for s d p) (regular-there j (omega arith)) ∙ none j q)))
 
-    pub for-none : ((j : ℕ) → j < regulars_used b → shows_for s d p (regular_in b j) ≡ false) → pick.Nobody ≡ pick_of (first (shows_for s d p) earlier (venue_of b).regular)
+    pub for-none : ((j : ℕ) → j < regulars_used b → shows_for s d p (regular_in b j) ≡ false) → None ≡ pick_of (first (shows_for s d p) earlier (venue_of b).regular)
     unfolding pick_of
     for-none none = sym (ap pick_of (none-picked no_regular (shows_for s d p) earlier 0 (venue_of b).regular (used-none (shows_for s d p) (for-free s d p) none)))
 
@@ -254,12 +252,12 @@ module _ (b : List ℕ) where
     pub higher-after : (i : ℕ) → id < (regular_in b i).id → (j : ℕ) → i ≤ j → j < regulars_used b → id < (regular_in b j).id
     higher-after i w j q h = elim (dec_lt i j) [ yes r ↦ (let z = ids-rise i j r h in omega arith) | no r ↦ (let e : j ≡ i = omega arith in rw e w) ]
 
-    pub id-found : (i : ℕ) → i < regulars_used b → (regular_in b i).id ≡ id → found.At i ≡ regular_found (venue_of b) id
+    pub id-found : (i : ℕ) → i < regulars_used b → (regular_in b i).id ≡ id → Some i ≡ regular_found (venue_of b) id
     unfolding regular_found rests_regular regular_place regular_at venue_of found_in is_regular_of
     id-found i h e =
         found_at (is_regular_of id) no_regular (regular-free id) (regular_in b) (regulars_used b) 128 (regulars-few b) i h
         (rw (holds-used i h, eq-eqb (regular_in b i).id id e)) (λ j q. other-id j (λ z. let w = ids-rise j i q h in omega arith))
 
-    pub id-none : ((j : ℕ) → j < regulars_used b → (regular_in b j).id ≡ id → ⊥) → found.Nothing ≡ regular_found (venue_of b) id
+    pub id-none : ((j : ℕ) → j < regulars_used b → (regular_in b j).id ≡ id → ⊥) → None ≡ regular_found (venue_of b) id
     unfolding regular_found rests_regular regular_place regular_at venue_of found_in
     id-none none = found_none (is_regular_of id) no_regular (regular-free id) (regular_in b) (regulars_used b) 128 (regulars-few b) (λ j q. other-id j (none j q))

@@ -1,5 +1,5 @@
 -- Laws of a search for the first place that passes a test, among the places in use.
-use Rattle.std.specs.Prelude.{if◌then◌else◌}
+use Rattle.std.specs.Prelude.{if◌then◌else◌, Option, Some, None, is_some}
 use mathlib.Core.Path.{◌≡◌, refl, ap, ◌∙◌}
 use mathlib.Core.Bool.{Bool, true, false}
 use mathlib.Core.List.{List, [], ◌∷◌}
@@ -8,11 +8,12 @@ use native.Mathlib.Omega.{arith}
 use native.Mathlib.Decide.{dec_lt, ℕ_discrete}
 use lib.ListN.{length, get_or}
 use Rattle.rules.specs.Base.{place_where}
+use Rattle.rules.specs.declared.Venue.{Venue}
 use Rattle.rules.specs.Words.{no_regular, no_complex, is_regular_of, is_complex_of}
+use Rattle.rules.specs.Complex.{regular_place, complex_place, rests_regular, rests_complex}
 use Rattle.places.specs.Layout.{in_use}
 use Rattle.places.proofs.Tables.{used-at, used-free, used-length}
-use Rattle.book.specs.declared.Found.{Found}
-use Rattle.book.specs.declared.Found.TheVariants.{At, Nothing}
+use Rattle.book.specs.Picks.{regular_found, complex_found}
 
 module _ {A : Type 0} (f : A → Bool) (d : A) where
   -- the first place that passes
@@ -34,11 +35,11 @@ module _ {A : Type 0} (f : A → Bool) (d : A) where
       go false e (suc j) q ih = ih j (omega arith)
 
   -- the place as it is answered
-  unfoldable pub found_in : List A → Found
-  found_in l = if f (get_or l (place_where f l) d) then At (place_where f l) else Nothing
+  unfoldable pub found_in : List A → Option ℕ
+  found_in l = if f (get_or l (place_where f l) d) then Some (place_where f l) else None
 
   module _ (off : f d ≡ false) (g : ℕ → A) (n all : ℕ) (few : n ≤ all) where
-    pub found_at : (i : ℕ) → i < n → f (g i) ≡ true → ((j : ℕ) → j < i → f (g j) ≡ false) → At i ≡ found_in (in_use g d n all)
+    pub found_at : (i : ℕ) → i < n → f (g i) ≡ true → ((j : ℕ) → j < i → f (g j) ≡ false) → Some i ≡ found_in (in_use g d n all)
     unfolding found_in
     found_at i h e k =
         let a : f (get_or (in_use g d n all) i d) ≡ true = ap f (used-at g d n all i h) ∙ e in
@@ -49,7 +50,7 @@ module _ {A : Type 0} (f : A → Bool) (d : A) where
     free_or : ((j : ℕ) → j < n → f (g j) ≡ false) → (j : ℕ) → f (get_or (in_use g d n all) j d) ≡ false
     free_or k j = elim (dec_lt j n) [ yes q ↦ ap f (used-at g d n all j q) ∙ k j q | no q ↦ ap f (used-free g d n all j (omega arith)) ∙ off ]
 
-    pub found_none : ((j : ℕ) → j < n → f (g j) ≡ false) → Nothing ≡ found_in (in_use g d n all)
+    pub found_none : ((j : ℕ) → j < n → f (g j) ≡ false) → None ≡ found_in (in_use g d n all)
     unfolding found_in
     found_none k = rw (free_or k (place_where f (in_use g d n all)))
 
@@ -59,21 +60,35 @@ passed_on f g i k e j h = elim (ℕ_discrete j i) [ yes q ↦ ap (λ (x : ℕ). 
 
 -- what is found, and what is not: for callers
 module _ {A : Type 0} (f : A → Bool) (d : A) (l : List A) where
-  pub found-is : (i : ℕ) → At i ≡ found_in f d l → (place_where f l ≡ i) × (f (get_or l i d) ≡ true)
+  pub found-is : (i : ℕ) → Some i ≡ found_in f d l → (place_where f l ≡ i) × (f (get_or l i d) ≡ true)
   unfolding found_in
   found-is i e = go (f (get_or l (place_where f l) d)) refl e
     where
-      go : (t : Bool) → f (get_or l (place_where f l) d) ≡ t → At i ≡ (if t then At (place_where f l) else Nothing) → (place_where f l ≡ i) × (f (get_or l i d) ≡ true)
+      go : (t : Bool) → f (get_or l (place_where f l) d) ≡ t → Some i ≡ (if t then Some (place_where f l) else None) → (place_where f l ≡ i) × (f (get_or l i d) ≡ true)
       go true p q = let z : place_where f l ≡ i = cc in (z, rw z at p)
       go false p q = let z : ◌≡◌ {A = ℕ} 0 1 = cc in absurd (omega arith)
 
-  pub found-not : Nothing ≡ found_in f d l → f (get_or l (place_where f l) d) ≡ false
+  pub found-not : None ≡ found_in f d l → f (get_or l (place_where f l) d) ≡ false
   unfolding found_in
   found-not e = go (f (get_or l (place_where f l) d)) refl e
     where
-      go : (t : Bool) → f (get_or l (place_where f l) d) ≡ t → Nothing ≡ (if t then At (place_where f l) else Nothing) → f (get_or l (place_where f l) d) ≡ false
+      go : (t : Bool) → f (get_or l (place_where f l) d) ≡ t → None ≡ (if t then Some (place_where f l) else None) → f (get_or l (place_where f l) d) ≡ false
       go true p q = let z : ◌≡◌ {A = ℕ} 0 1 = cc in absurd (omega arith)
       go false p q = p
+
+-- a place is found where the order rests
+some_if : (t : Bool) (i : ℕ) → is_some (if t then Some i else None) ≡ t
+some_if true i = refl
+some_if false i = refl
+
+module _ (v : Venue) (id : ℕ) where
+  pub regular-found : is_some (regular_found v id) ≡ rests_regular v id
+  unfolding regular_found
+  regular-found = some_if (rests_regular v id) (regular_place v id)
+
+  pub complex-found : is_some (complex_found v id) ≡ rests_complex v id
+  unfolding complex_found
+  complex-found = some_if (rests_complex v id) (complex_place v id)
 
 -- free places have no id
 pub regular-free : (id : ℕ) → is_regular_of id no_regular ≡ false

@@ -1,4 +1,5 @@
 -- What is picked of the regular book stands at a place in use; the tests by which the orders at a price and those that are met are told; and their rank.
+use Rattle.std.specs.Prelude.{Option, Some, None}
 use mathlib.Core.Path.{◌≡◌, refl, sym, ap, ap₂, ◌∙◌}
 use mathlib.Core.Bool.{Bool, true, false, ◌&&◌, true≢false}
 use mathlib.Core.List.{List}
@@ -18,18 +19,17 @@ use Rattle.rules.specs.Sound.{shows_fully}
 use Rattle.rules.proofs.Picking.{At, Chosen, first-chosen}
 use Rattle.places.specs.Layout.{in_use, regulars_used, regular_in, regular_key, venue_of}
 use Rattle.places.proofs.Tables.{used-at, used-free}
-use Rattle.book.specs.declared.Pick.{Pick}
-use Rattle.book.specs.declared.Pick.TheVariants as pick
+use Rattle.prices.specs.Picks.{choice_of}
 use Rattle.book.specs.Picks.{pick_of}
 
 -- What is picked ------------------------------------------------------------------------------
 
-pub picked-is : (x : Choice Regular) (i : ℕ) (o : Regular) → pick.At i o ≡ pick_of x → x ≡ picked i o
+pub picked-is : (x : Choice Regular) (i : ℕ) (o : Regular) → Some (i, o) ≡ pick_of x → x ≡ picked i o
 unfolding pick_of
 picked-is nobody i o e = let z : ◌≡◌ {A = ℕ} 0 1 = cc in absurd (omega arith)
-picked-is (picked j m) i o e = cc
+picked-is (picked j m) i o e = let h : ◌≡◌ {A = ℕ × Regular} (j, m) (i, o) = cc in ap (λ (x : ℕ × Regular). picked x.0 x.1) h
 
-pub nobody-is : (x : Choice Regular) → pick.Nobody ≡ pick_of x → x ≡ nobody
+pub nobody-is : (x : Choice Regular) → None ≡ pick_of x → x ≡ nobody
 unfolding pick_of
 nobody-is nobody e = refl
 nobody-is (picked j m) e = let z : ◌≡◌ {A = ℕ} 0 1 = cc in absurd (omega arith)
@@ -173,16 +173,18 @@ module _ (a m : Regular) where
     rank_same q t e = rw (h, eq-eqb a.price m.price q) e
 
 -- beside what was picked before
-module _ (best : Pick) (n : ℕ) (m : Regular) where
-  pub pick-none : best ≡ pick.Nobody → (x : Choice Regular) → best ≡ pick_of x → pick.At n m ≡ pick_of (ranked price_then_id n m x)
-  unfolding pick_of ranked
-  pick-none e x p = rw (nobody-is x (sym e ∙ p))
+pick-choice : (x : Option (ℕ × Regular)) → pick_of (choice_of x) ≡ x
+unfolding pick_of choice_of
+pick-choice None = refl
+pick-choice (Some x) = refl
 
-  module _ (i : ℕ) (a : Regular) (e : best ≡ pick.At i a) (x : Choice Regular) (p : best ≡ pick_of x) where
-    pub pick-kept : price_then_id a m ≡ true → pick.At i a ≡ pick_of (ranked price_then_id n m x)
-    unfolding pick_of ranked
-    pick-kept h = rw (picked-is x i a (sym e ∙ p), h)
+choice-pick : (x : Choice Regular) → choice_of (pick_of x) ≡ x
+unfolding pick_of choice_of
+choice-pick nobody = refl
+choice-pick (picked i o) = refl
 
-    pub pick-new : price_then_id a m ≡ false → pick.At n m ≡ pick_of (ranked price_then_id n m x)
-    unfolding pick_of ranked
-    pick-new h = rw (picked-is x i a (sym e ∙ p), h)
+pub pick-ranked : (best r : Option (ℕ × Regular)) (n : ℕ) (m : Regular) → choice_of r ≡ ranked price_then_id n m (choice_of best) →
+    (x : Choice Regular) → best ≡ pick_of x → r ≡ pick_of (ranked price_then_id n m x)
+pick-ranked best r n m e x p =
+    sym (pick-choice r)
+    ∙ ap pick_of (e ∙ ap (λ (b : Option (ℕ × Regular)). ranked price_then_id n m (choice_of b)) p ∙ ap (ranked price_then_id n m) (choice-pick x))

@@ -2,10 +2,9 @@
 // Ids rise with the places, so that the first of the places is the earliest, and an id is found by halves.
 #![tactic(auto)]
 
-ghost use Rattle.std.specs.Prelude.{◌≡◌, length};
+ghost use Rattle.std.specs.Prelude.{◌≡◌};
 ghost use Rattle.std.specs.Int.Count.{ones};
-ghost use Rattle.rules.specs.declared.Regular.{Regular};
-ghost use Rattle.rules.specs.Base.{Choice, ranked, first};
+ghost use Rattle.rules.specs.Base.{first};
 ghost use Rattle.rules.specs.Words.{earlier};
 ghost use Rattle.rules.specs.Prices.{shows_for};
 ghost use Rattle.rules.specs.Order.{is_met, shown_then_id, price_then_id};
@@ -15,20 +14,6 @@ ghost use Rattle.places.specs.Requirements.{RightSeries, RightShown};
 
 use places::Numbers;
 use rules::Regular;
-
-// A regular order picked, with its place.
-#[derive(Clone, Copy)]
-pub enum Pick {
-    Nobody,
-    At(usize, Regular),
-}
-
-// The place of an order.
-#[derive(Clone, Copy)]
-pub enum Found {
-    At(usize),
-    Nothing,
-}
 
 // An order shows some size at a price of a side of a series.
 fn shows_for(o: Regular, series: u8, side: u8, price: u32) -> bool
@@ -47,37 +32,34 @@ fn shows_for(o: Regular, series: u8, side: u8, price: u32) -> bool
 }
 
 // The earliest regular order that shows size at a price of a side. Only orders with the key of series and side are read whole.
-pub fn first_for(numbers: &Numbers, series: u8, side: u8, price: u32) -> Pick
+pub fn first_for(numbers: &Numbers, series: u8, side: u8, price: u32) -> Option<(usize, Regular)>
     requires { Right numbers.now }
     ensures { result ≡ pick_of (first (shows_for series side price) earlier (venue_of numbers.now).regular) }
 {
     let key = arithmetic::place_of(series, side);
     let n = places::regulars_used(numbers);
-    let mut k = 0;
-    while k < n {
-        let i = k;
-        k += 1;
+    for i in 0..n {
         if places::key_at(numbers, i) != key {
             continue;
         }
         let o = places::regular_at(numbers, i);
         if shows_for(o, series, side, price) {
-            return Pick::At(i, o);
+            return Some((i, o));
         }
     }
-    Pick::Nobody
+    None
 }
 
 // The regular order that one of this side and price in a series meets first, where every order shows some size: the earliest at the best price of the
 // other side, where this is reached.
-fn first_shown(numbers: &Numbers, series: u8, side: u8, price: u32) -> Pick
+fn first_shown(numbers: &Numbers, series: u8, side: u8, price: u32) -> Option<(usize, Regular)>
     requires { RightShown numbers.now series }
     ensures { result ≡ pick_of (first (is_met series side price) price_then_id (venue_of numbers.now).regular) }
 {
     let other = arithmetic::opposite_of(side);
     let best = levels::best_regular(numbers, series, other);
     if !levels::reaches_any(side, price, best) {
-        return Pick::Nobody;
+        return None;
     }
     first_for(numbers, series, other, best)
 }
@@ -127,30 +109,14 @@ fn ranks_before(a: Regular, m: Regular) -> bool
     shows_first(a, m)
 }
 
-// The order m at place n, beside the first in rank of those after it.
-fn better_pick(best: Pick, n: usize, m: Regular) -> Pick
-    ensures { (x : Choice Regular) → best ≡ pick_of x → result ≡ pick_of (ranked price_then_id n m x) }
-{
-    match best {
-        Pick::Nobody => Pick::At(n, m),
-        Pick::At(i, a) => {
-            if ranks_before(a, m) {
-                return Pick::At(i, a);
-            }
-            Pick::At(n, m)
-        }
-    }
-}
-
 // The same where some order may show nothing of what is left of it: the first in rank of all that are met.
-fn first_ranked(numbers: &Numbers, series: u8, side: u8, price: u32) -> Pick
+fn first_ranked(numbers: &Numbers, series: u8, side: u8, price: u32) -> Option<(usize, Regular)>
     ensures { result ≡ pick_of (first (is_met series side price) price_then_id (venue_of numbers.now).regular) }
 {
     let key = arithmetic::place_of(series, arithmetic::opposite_of(side));
-    let mut best = Pick::Nobody;
-    let mut i = places::regulars_used(numbers);
-    while 0 < i {
-        i -= 1;
+    let mut best = None;
+    let n = places::regulars_used(numbers);
+    for i in (0..n).rev() {
         if places::key_at(numbers, i) != key {
             continue;
         }
@@ -158,13 +124,13 @@ fn first_ranked(numbers: &Numbers, series: u8, side: u8, price: u32) -> Pick
         if !is_met(m, series, side, price) {
             continue;
         }
-        best = better_pick(best, i, m);
+        best = prices::better(best, i, m, ranks_before);
     }
     best
 }
 
 // The regular order that one of this side and price in a series meets first.
-pub fn first_met(numbers: &Numbers, series: u8, side: u8, price: u32) -> Pick
+pub fn first_met(numbers: &Numbers, series: u8, side: u8, price: u32) -> Option<(usize, Regular)>
     requires { RightSeries numbers.now series }
     ensures { result ≡ pick_of (first (is_met series side price) price_then_id (venue_of numbers.now).regular) }
 {
@@ -175,17 +141,18 @@ pub fn first_met(numbers: &Numbers, series: u8, side: u8, price: u32) -> Pick
 }
 
 // The place of the resting regular order with an id: among the places from `low` to below `high`, where every place is held.
-pub fn regular_place(numbers: &Numbers, id: u32) -> Found
+pub fn regular_place(numbers: &Numbers, id: u32) -> Option<usize>
     requires { Dense numbers.now }
     ensures { result ≡ regular_found (venue_of numbers.now) id }
 {
     let mut low: usize = 0;
     let mut high = places::regulars_used(numbers);
+    // The orders are rows of numbers: there is no slice of them for binary_search.
     while low < high {
         let i = (low + high) / 2;
         let here = places::regular_id(numbers, i);
         if here == id {
-            return Found::At(i);
+            return Some(i);
         }
         if here < id {
             low = i + 1;
@@ -193,23 +160,21 @@ pub fn regular_place(numbers: &Numbers, id: u32) -> Found
         }
         high = i;
     }
-    Found::Nothing
+    None
 }
 
 // The place of the resting complex order with an id.
-pub fn complex_place(numbers: &Numbers, id: u32) -> Found
+pub fn complex_place(numbers: &Numbers, id: u32) -> Option<usize>
     ensures { result ≡ complex_found (venue_of numbers.now) id }
 {
     let n = places::complexes_used(numbers);
-    let mut i = 0;
-    while i < n {
+    for i in 0..n {
         let c = places::complex_at(numbers, i);
         if prices::is_complex_of(c, id) {
-            return Found::At(i);
+            return Some(i);
         }
-        i += 1;
     }
-    Found::Nothing
+    None
 }
 
 // The ones of a mask: how many places are filled.

@@ -10,15 +10,12 @@ use lib.IntN.{ℤ, pos, neg_ℤ, ◌+ℤ◌}
 use lib.Signed.{le_z, lt_z}
 use Rattle.rules.specs.declared.Complex.{Complex}
 use Rattle.rules.specs.declared.Venue.{Venue}
-use Rattle.rules.specs.Base.{ranked, first_from, first}
+use Rattle.rules.specs.Base.{first_from, first}
 use Rattle.rules.specs.Words.{opposite, no_complex, earlier_complex}
 use Rattle.rules.specs.Prices.{best_regular, weighed, net, in_band}
 use Rattle.rules.specs.Complex.{reversed, respects_legs, crosses, limit_then_id}
 use Rattle.rules.proofs.Tests.{not-out}
 use Rattle.places.specs.Layout.{upto, complexes_used, complex_in, venue_of}
-use Rattle.cross_makers.specs.declared.Maker.{Maker}
-use Rattle.cross_makers.specs.declared.Maker.TheVariants.{Nobody, At}
-use Rattle.cross_makers.specs.Picks.{picked_of}
 use Rattle.levels.proofs.Scanning.{first-used}
 
 -- what a negated test says of the definition's
@@ -99,20 +96,6 @@ module _ (a m : Complex) where
   pub rank-equal : lt_z m.limit a.limit ≡ false → lt_z a.limit m.limit ≡ false → ltb a.id m.id ≡ limit_then_id a m
   unfolding limit_then_id earlier_complex
   rank-equal h k = rw (h, k)
-
-module _ (best : Maker) (n : ℕ) (m : Complex) where
-  pub pick-none : best ≡ Nobody → picked_of (At n m) ≡ ranked limit_then_id n m (picked_of best)
-  unfolding picked_of ranked
-  pick-none e = rw e
-
-  module _ (i : ℕ) (a : Complex) (e : best ≡ At i a) where
-    pub pick-kept : limit_then_id a m ≡ true → picked_of (At i a) ≡ ranked limit_then_id n m (picked_of best)
-    unfolding picked_of ranked
-    pick-kept h = rw (e, h)
-
-    pub pick-new : limit_then_id a m ≡ false → picked_of (At n m) ≡ ranked limit_then_id n m (picked_of best)
-    unfolding picked_of ranked
-    pick-new h = rw (e, h)
 
 -- The places in use ---------------------------------------------------------------------------
 

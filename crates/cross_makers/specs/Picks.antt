@@ -1,9 +1,8 @@
 -- The code's pick, as the definitions'.
+use Rattle.std.specs.Prelude.{ℕ, Option}
 use Rattle.rules.specs.declared.Complex.{Complex}
-use Rattle.rules.specs.Base.{Choice, nobody, picked}
-use Rattle.cross_makers.specs.declared.Maker.{Maker}
-use Rattle.cross_makers.specs.declared.Maker.TheVariants.{Nobody, At}
+use Rattle.prices.specs.Picks.{choice_of}
+use Rattle.rules.specs.Base.{Choice}
 
-unfoldable pub picked_of : Maker → Choice Complex
-picked_of Nobody = nobody
-picked_of (At i c) = picked i c
+unfoldable pub picked_of : Option (ℕ × Complex) → Choice Complex
+picked_of x = choice_of x

@@ -17,13 +17,6 @@ use levels::TakenLevels;
 use places::Numbers;
 use rules::Complex;
 
-// A complex order with its place, or none.
-#[derive(Clone, Copy)]
-pub enum Maker {
-    Nobody,
-    At(usize, Complex),
-}
-
 // What an order pays in a cross with m, at m's limit.
 pub fn net_against(m: Complex) -> i64
     ensures { (result ≡ neg_ℤ m.limit) × (nat_abs result ≤ 2147483648) }
@@ -137,21 +130,6 @@ pub fn crosses_before(a: Complex, m: Complex) -> bool
     a.id < m.id
 }
 
-// The candidate m at place n, beside the best of those after it.
-fn better_maker(best: Maker, n: usize, m: Complex) -> Maker
-    ensures { picked_of result ≡ ranked limit_then_id n m (picked_of best) }
-{
-    match best {
-        Maker::Nobody => Maker::At(n, m),
-        Maker::At(i, a) => {
-            if crosses_before(a, m) {
-                return Maker::At(i, a);
-            }
-            Maker::At(n, m)
-        }
-    }
-}
-
 // A key is one of two.
 fn is_either(key: usize, one: usize, two: usize) -> bool
     ensures { result ≡ (eqb key one || eqb key two) }
@@ -163,16 +141,15 @@ fn is_either(key: usize, one: usize, two: usize) -> bool
 }
 
 // The resting order that c crosses with first. Of the others only those whose legs and ratios have the key are read.
-pub fn first_cross(numbers: &Numbers, c: Complex) -> Maker
+pub fn first_cross(numbers: &Numbers, c: Complex) -> Option<(usize, Complex)>
     requires { LegsReady numbers.now c }
     ensures { picked_of result ≡ first (crosses (venue_of numbers.now) c) limit_then_id (venue_of numbers.now).complex }
 {
     let straight = places::facing_key(c.series1, c.side1, c.ratio1, c.series2, c.side2, c.ratio2);
     let turned = places::facing_key(c.series2, c.side2, c.ratio2, c.series1, c.side1, c.ratio1);
-    let mut best = Maker::Nobody;
-    let mut i = places::complexes_used(numbers);
-    while 0 < i {
-        i -= 1;
+    let mut best = None;
+    let n = places::complexes_used(numbers);
+    for i in (0..n).rev() {
         if !is_either(places::cross_key_at(numbers, i), straight, turned) {
             continue;
         }
@@ -180,7 +157,7 @@ pub fn first_cross(numbers: &Numbers, c: Complex) -> Maker
         if !can_cross(numbers, c, m) {
             continue;
         }
-        best = better_maker(best, i, m);
+        best = prices::better(best, i, m, crosses_before);
     }
     best
 }

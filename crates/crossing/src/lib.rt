@@ -13,8 +13,7 @@ ghost use Rattle.places.specs.Layout.{venue_of, SameCounts};
 ghost use Rattle.levels.specs.Requirements.{TakenReady};
 ghost use Rattle.places.specs.Requirements.{ComplexesReady, RightComplex};
 
-use arithmetic::{lesser, limit_of};
-use cross_makers::Maker;
+use arithmetic::limit_of;
 use levels::TakenLevels;
 use places::Numbers;
 use rules::{Cause, Complex};
@@ -41,19 +40,17 @@ pub fn cross_all(numbers: &mut Numbers, i: usize, out: &mut [u8], at: usize) -> 
     ensures counts { SameCounts numbers.old numbers.new }
 {
     let taker = places::complex_at(numbers, i);
-    let mut turns = taker.quantity;
     let mut pos = at;
-    while 0 < turns {
-        turns -= 1;
+    for _ in 0..taker.quantity {
         let c = places::complex_at(numbers, i);
         if c.quantity == 0 {
             return pos;
         }
         let found = cross_makers::first_cross(numbers, c);
-        let Maker::At(j, m) = found else {
+        let Some((j, m)) = found else {
             return pos;
         };
-        pos = cross(numbers, i, j, lesser(c.quantity, m.quantity), out, pos);
+        pos = cross(numbers, i, j, c.quantity.min(m.quantity), out, pos);
     }
     pos
 }
@@ -97,12 +94,12 @@ fn fills_unit(numbers: &Numbers, taken: TakenLevels, c: Complex) -> bool
 {
     let one = taken.first;
     let first = prices::own_size(numbers, one, c.series1, arithmetic::opposite_of(c.side1));
-    if first < (c.ratio1 as u64) {
+    if first < u64::from(c.ratio1) {
         return false;
     }
     let two = taken.second;
     let second = prices::own_size(numbers, two, c.series2, arithmetic::opposite_of(c.side2));
-    (c.ratio2 as u64) <= second
+    u64::from(c.ratio2) <= second
 }
 
 // Why the legging orders that c touches go.

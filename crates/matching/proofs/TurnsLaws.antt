@@ -1,9 +1,9 @@
 -- Laws of turns: what an incoming order does next, and the loop of it.
-use Rattle.std.specs.Prelude.{if◌then◌else◌}
+use Rattle.std.specs.Prelude.{if◌then◌else◌, Option, Some, None}
 use mathlib.Core.Path.{◌≡◌, refl, sym, ap, ◌∙◌}
 use mathlib.Core.Bool.{Bool, true, false, not}
 use mathlib.Core.List.{List}
-use Prim.Native.Nat.{ℕ, zero, suc, ◌-◌, ◌≤◌, ◌<◌, min}
+use Prim.Native.Nat.{ℕ, zero, suc, ◌≤◌, ◌<◌, min}
 use native.Mathlib.Omega.{arith}
 use lib.ListN.{length}
 use borrow.Author.Tests.{eq-eqb, ne_eqb}
@@ -20,8 +20,6 @@ use Rattle.records.specs.Seen.{seen}
 use Rattle.records.specs.Stage.{stage, ◌does◌}
 use Rattle.records.proofs.StageLaws.{onward, does-nothing, does-room}
 use Rattle.places.specs.Layout.{size, regulars_used, venue_of, SameCounts}
-use Rattle.book.specs.declared.Pick.{Pick}
-use Rattle.book.specs.declared.Pick.TheVariants as pick
 use Rattle.book.specs.Picks.{pick_of}
 use Rattle.book.proofs.PicksLaws.{picked-is, nobody-is, regular-used, met-free}
 use Rattle.places.proofs.Beside.{counts-on}
@@ -91,16 +89,16 @@ module _ (i : ℕ) (v : Venue) (o : Regular) (eo : o ≡ regular_at v i) where
         ∙ ap (λ (l : Legging). by-pick i v o l (first (is_met o.series o.side o.price) price_then_id v.regular)) (sym el)
         ∙ ap (by-pick i v o l) e)
 
-    abbrev met : Pick
+    abbrev met : Option (ℕ × Regular)
     met = pick_of (first (is_met o.series o.side o.price) price_then_id v.regular)
 
-    pub none-hit : (k : ℕ) → pick.Nobody ≡ met → legging_first o l 0 ≡ true → k ≡ min o.quantity l.quantity → turned (hit i l k v) ≡ meet_turn i v
+    pub none-hit : (k : ℕ) → None ≡ met → legging_first o l 0 ≡ true → k ≡ min o.quantity l.quantity → turned (hit i l k v) ≡ meet_turn i v
     none-hit k e g q = ap (λ (x : ℕ). turned (hit i l x v)) q ∙ sym (ap (λ (t : Bool). if t then turned (hit i l (min o.quantity l.quantity) v) else ended) g) ∙ turn_is nobody (nobody-is _ e)
 
-    pub none_end : pick.Nobody ≡ met → legging_first o l 0 ≡ false → ended ≡ meet_turn i v
+    pub none_end : None ≡ met → legging_first o l 0 ≡ false → ended ≡ meet_turn i v
     none_end e g = sym (ap (λ (t : Bool). if t then turned (hit i l (min o.quantity l.quantity) v) else ended) g) ∙ turn_is nobody (nobody-is _ e)
 
-    module _ (j : ℕ) (m : Regular) (e : pick.At j m ≡ met) where
+    module _ (j : ℕ) (m : Regular) (e : Some (j, m) ≡ met) where
       abbrev either : Bool → Turn
       either t = if t then turned (hit i l (min o.quantity l.quantity) v) else turned (meet i j (min o.quantity (at_once m)) v)
 
@@ -111,7 +109,7 @@ module _ (i : ℕ) (v : Venue) (o : Regular) (eo : o ≡ regular_at v i) where
       some-meet k x g ex q = ap (λ (x : ℕ). turned (meet i j x v)) (q ∙ ap (min o.quantity) ex) ∙ sym (ap either g) ∙ turn_is (picked j m) (picked-is _ j m e)
 
 -- whoever is met stands at a place in use
-pub met-used : (b : List ℕ) (s d p j : ℕ) (m : Regular) → pick.At j m ≡ pick_of (first (is_met s d p) price_then_id (venue_of b).regular) → j < regulars_used b
+pub met-used : (b : List ℕ) (s d p j : ℕ) (m : Regular) → Some (j, m) ≡ pick_of (first (is_met s d p) price_then_id (venue_of b).regular) → j < regulars_used b
 met-used b s d p j m e = (regular-used _ _ (met-free s d p) b j m (picked-is _ j m e)).used
 
 -- The loop ------------------------------------------------------------------------------------
@@ -158,12 +156,12 @@ module _ {turn : Venue → Turn} {k : ℕ} {b₀ out₀ b out : List ℕ} {at po
   pub turning-stop : ended ≡ turn (venue_of b) → (stage (venue_of b) out pos ≡ seen out₀ at does repeat k turn (venue_of b₀)) × SameCounts b₀ b
   turning-stop e = turned-out (repeat-stop turn (venue_of b) turns e)
 
-  pub turning-turn : (e : Effect) (b₁ out₁ : List ℕ) (pos₁ : ℕ) → 0 < turns → turned e ≡ turn (venue_of b) → length b₁ ≡ length b →
-      (stage (venue_of b₁) out₁ pos₁ ≡ seen out pos does e) × SameCounts b b₁ → Turning turn k b₀ out₀ at b₁ out₁ pos₁ (turns - 1)
-  turning-turn e b₁ out₁ pos₁ h q n w = record {
+  pub turning-turn : (e : Effect) (b₁ out₁ : List ℕ) (pos₁ next : ℕ) → suc next ≡ turns → turned e ≡ turn (venue_of b) → length b₁ ≡ length b →
+      (stage (venue_of b₁) out₁ pos₁ ≡ seen out pos does e) × SameCounts b b₁ → Turning turn k b₀ out₀ at b₁ out₁ pos₁ next
+  turning-turn e b₁ out₁ pos₁ next h q n w = record {
     whole = n ∙ i.whole;
     counts = counts-on b₀ b b₁ i.counts w.1;
-    rest = repeat-turn turn (venue_of b) turns (turns - 1) e (venue_of b₁) out₁ out pos₁ pos (omega arith) q w.0 ∙ i.rest;
+    rest = repeat-turn turn (venue_of b) turns next e (venue_of b₁) out₁ out pos₁ pos h q w.0 ∙ i.rest;
   }
 
   pub turning-room : length out ≡ length out₀

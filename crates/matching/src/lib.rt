@@ -5,7 +5,6 @@
 ghost use Rattle.std.specs.Prelude.{◌≡◌, suc, ◌<◌};
 ghost use Rattle.rules.specs.Words.{opposite, legging_at};
 ghost use Rattle.rules.specs.Effects.{repeat};
-ghost use Rattle.rules.specs.Prices.{own_price};
 ghost use Rattle.rules.specs.Order.{at_once, legging_first, meet_turn, enter_regular};
 ghost use Rattle.records.specs.Seen.{seen};
 ghost use Rattle.records.specs.Stage.{stage, ◌does◌};
@@ -13,34 +12,22 @@ ghost use Rattle.places.specs.Layout.{regulars_used, complexes_used, venue_of, C
 ghost use Rattle.matching.specs.Turns.{turn_of, InUse};
 ghost use Rattle.places.specs.Requirements.{RightRegular, DenseOrder};
 
-use arithmetic::lesser;
-use book::Pick;
 use places::Numbers;
 use rules::{Legging, Regular};
 
 // What the order at a place does next.
-#[derive(Clone, Copy)]
+#[derive(Clone, Copy, Debug, PartialEq, Eq)]
 pub enum Plan {
     Ended,
     Hit(Legging, u32),
     Meet(usize, u32),
 }
 
-// A legging order's price; 0 where its place is free.
-fn own_price(l: Legging) -> u32
-    ensures { result ≡ own_price l }
-{
-    if l.quantity == 0 {
-        return 0;
-    }
-    l.price
-}
-
 // The order o meets the legging order l before a regular order at price p (0: none).
 fn legging_first(o: Regular, l: Legging, p: u32) -> bool
     ensures { result ≡ legging_first o l p }
 {
-    let own = own_price(l);
+    let own = prices::own_price_of(l);
     if own == 0 {
         return false;
     }
@@ -82,17 +69,17 @@ fn decide(numbers: &Numbers, i: usize) -> Plan
     let l = facing(numbers, o.series, o.side);
     let found = book::first_met(numbers, o.series, o.side, o.price);
     match found {
-        Pick::Nobody => {
+        None => {
             if legging_first(o, l, 0) {
-                return Plan::Hit(l, lesser(o.quantity, l.quantity));
+                return Plan::Hit(l, o.quantity.min(l.quantity));
             }
             Plan::Ended
         }
-        Pick::At(j, m) => {
+        Some((j, m)) => {
             if legging_first(o, l, m.price) {
-                return Plan::Hit(l, lesser(o.quantity, l.quantity));
+                return Plan::Hit(l, o.quantity.min(l.quantity));
             }
-            Plan::Meet(j, lesser(o.quantity, at_once(m)))
+            Plan::Meet(j, o.quantity.min(at_once(m)))
         }
     }
 }
@@ -104,9 +91,7 @@ pub fn meet_all(numbers: &mut Numbers, i: usize, quantity: u32, out: &mut [u8], 
     ensures counts { SameCounts numbers.old numbers.new }
 {
     let mut pos = at;
-    let mut turns = quantity;
-    while 0 < turns {
-        turns -= 1;
+    for _ in 0..quantity {
         let plan = decide(numbers, i);
         match plan {
             Plan::Ended => {

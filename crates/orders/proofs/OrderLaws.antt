@@ -12,7 +12,6 @@ use Rattle.rules.specs.Complex.{work, complex}
 use Rattle.records.specs.Seen.{seen}
 use Rattle.records.specs.Stage.{stage, ◌does◌}
 use Rattle.records.proofs.StageLaws.{follow}
-use Rattle.places.specs.Layout.{Counts, SameCounts}
 
 pub complex-law : (number : ℕ) (c : Complex) (i : ℕ) (v v₁ v₂ v₃ v₄ : Venue) (l₀ l₁ l₂ l₃ : List ℕ) (a₀ a₁ a₂ a₃ : ℕ) →
     i ≡ free_complex v → v₁ ≡ put_complex i c v →
@@ -23,7 +22,3 @@ complex-law number c i v v₁ v₂ v₃ v₄ l₀ l₁ l₂ l₃ a₀ a₁ a₂ 
     follow (seen l₀ a₀) (work i v₁ ⟫ settle) (generate number i) v₃ v₄ l₂ l₃ a₂ a₃ (follow (seen l₀ a₀) (work i v₁) settle v₂ v₃ l₁ l₂ a₁ a₂ w s) g
     ∙ ap (λ (x : Venue). seen l₀ a₀ does (work i x ⟫ settle ⟫ generate number i)) ep
     ∙ ap (λ (k : ℕ). seen l₀ a₀ does (work k (put_complex k c v) ⟫ settle ⟫ generate number k)) ei
-
--- as many places in use as one more than before
-pub counts-more : (r n : ℕ) (a b c : List ℕ) → Counts r n a b → SameCounts b c → Counts r n a c
-counts-more r n a b c p q = record { regulars = q.regulars ∙ p.regulars; complexes = q.complexes ∙ p.complexes; right = λ h. q.right (p.right h) }

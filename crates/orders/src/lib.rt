@@ -13,7 +13,6 @@ ghost use Rattle.orders.specs.Effects.{withdrawn};
 ghost use Rattle.levels.specs.Requirements.{DenseComplex};
 ghost use Rattle.places.specs.Requirements.{DenseOrder, DenseRests};
 
-use book::Found;
 use places::Numbers;
 use rules::{Complex, Regular};
 
@@ -43,7 +42,7 @@ fn withdraw_complex(numbers: &mut Numbers, id: u32, out: &mut [u8], at: usize) -
     ensures counts { SameCounts numbers.old numbers.new }
 {
     let found = book::complex_place(numbers, id);
-    let Found::At(i) = found else {
+    let Some(i) = found else {
         return at;
     };
     trades::cancel_complex(numbers, i, out, at)
@@ -56,7 +55,7 @@ fn withdraw(numbers: &mut Numbers, id: u32, out: &mut [u8], at: usize) -> usize
     ensures counts { SameCounts numbers.old numbers.new }
 {
     let found = book::regular_place(numbers, id);
-    let Found::At(i) = found else {
+    let Some(i) = found else {
         return withdraw_complex(numbers, id, out, at);
     };
     trades::cancel_regular(numbers, i, out, at)

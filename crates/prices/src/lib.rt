@@ -1,13 +1,15 @@
 // What is read of a side: own, clear and market prices, the band, the increment; and of a complex order its legs, its parent and whether its series are open.
 #![tactic(auto)]
 
-ghost use Rattle.std.specs.Prelude.{◌≡◌, ◌<◌, length};
+ghost use Rattle.std.specs.Prelude.{◌≡◌, ◌<◌, Bool};
+ghost use Rattle.rules.specs.Base.{ranked};
 ghost use Rattle.rules.specs.Words.{legging_at, status_of, is_complex_of};
 ghost use Rattle.rules.specs.Settings.{increment};
 ghost use Rattle.rules.specs.Prices.{own_price, best_own, own_size, clear_price, away, market_best, in_band};
 ghost use Rattle.rules.specs.Standing.{other_leg, parent_of, both_open};
 ghost use Rattle.rules.specs.Complex.{any_closed};
-ghost use Rattle.places.specs.Layout.{size, venue_of};
+ghost use Rattle.prices.specs.Picks.{choice_of};
+ghost use Rattle.places.specs.Layout.{venue_of};
 ghost use Rattle.levels.specs.Grid.{sides_in, LegsIn};
 ghost use Rattle.levels.specs.Requirements.{BandReady, LevelReady, BestReady, BestOfSeries};
 ghost use Rattle.places.specs.Requirements.{SideReady, IncrementReady};
@@ -23,15 +25,15 @@ pub fn sides_of(g: [[Level; 2]; 8], c: Complex, s: u8, d: u8) -> LegSides
     requires { (LegsIn c) × (s < 8) × (d < 2) }
     ensures { result ≡ sides_in g c s d }
 {
-    let s1 = c.series1 as usize;
-    let d1 = arithmetic::opposite_of(c.side1) as usize;
-    let s2 = c.series2 as usize;
-    let d2 = arithmetic::opposite_of(c.side2) as usize;
+    let s1 = usize::from(c.series1);
+    let d1 = usize::from(arithmetic::opposite_of(c.side1));
+    let s2 = usize::from(c.series2);
+    let d2 = usize::from(arithmetic::opposite_of(c.side2));
     let first = g[s1][d1];
     let second = g[s2][d2];
-    let i = s as usize;
-    let j = d as usize;
-    let k = arithmetic::opposite_of(d) as usize;
+    let i = usize::from(s);
+    let j = usize::from(d);
+    let k = usize::from(arithmetic::opposite_of(d));
     let own = g[i][j];
     let facing = g[i][k];
     let taken = TakenLevels { first, second };
@@ -42,16 +44,22 @@ pub fn sides_of(g: [[Level; 2]; 8], c: Complex, s: u8, d: u8) -> LegSides
     }
 }
 
+// A legging order's own price; 0 where its place is free.
+pub fn own_price_of(legging: Legging) -> u32
+    ensures { result ≡ own_price legging }
+{
+    if legging.quantity == 0 {
+        return 0;
+    }
+    legging.price
+}
+
 // The own price of the legging order of a series and side; 0 where there is none.
 pub fn own_price(numbers: &Numbers, s: u8, d: u8) -> u32
     requires { SideReady numbers.now s d }
     ensures { result ≡ own_price (legging_at (venue_of numbers.now) s d) }
 {
-    let l = places::legging_at(numbers, arithmetic::place_of(s, d));
-    if l.quantity == 0 {
-        return 0;
-    }
-    l.price
+    own_price_of(places::legging_at(numbers, arithmetic::place_of(s, d)))
 }
 
 // The best own price of a side, legging included; best is its best regular price.
@@ -72,7 +80,7 @@ pub fn own_size(numbers: &Numbers, level: Level, s: u8, d: u8) -> u64
     if l.quantity == 0 {
         return level.size;
     }
-    let legging = l.quantity as u64;
+    let legging = u64::from(l.quantity);
     if l.price == level.price {
         return level.size + legging;
     }
@@ -99,7 +107,7 @@ pub fn away_price(numbers: &Numbers, s: u8, d: u8) -> u32
     requires { s < 8 }
     ensures { result ≡ away (venue_of numbers.now) s d }
 {
-    let x = places::listed_at(numbers, s as usize);
+    let x = places::listed_at(numbers, usize::from(s));
     if d == 0 {
         return x.bid;
     }
@@ -149,7 +157,7 @@ pub fn increment_of(numbers: &Numbers, s: u8) -> u8
     requires { IncrementReady numbers.now s }
     ensures { (result ≡ increment (venue_of numbers.now) s) × (0 < result) }
 {
-    places::figure_at(numbers, s as usize)
+    places::figure_at(numbers, usize::from(s))
 }
 
 // The leg of a complex order that is not in series s.
@@ -168,6 +176,29 @@ pub fn other_leg(c: Complex, s: u8) -> Leg
     }
 }
 
+// Who is first ---------------------------------------------------------------------------------
+
+// The candidate x at place n, beside the first in rank of those after it; `before` says whether one goes before another.
+pub fn better<T: Copy, F: Fn(T, T) -> bool>(
+    best: Option<(usize, T)>,
+    n: usize,
+    x: T,
+    before: F,
+) -> Option<(usize, T)>
+    requires { F.IsAlwaysCallable before }
+    ensures { (order : T → T → Bool) → ((a : T) (r : Bool) → F.post before a x r → r ≡ order a x) → choice_of result ≡ ranked order n x (choice_of best) }
+{
+    let Some((i, a)) = best else {
+        return Some((n, x));
+    };
+    if before(a, x) {
+        return Some((i, a));
+    }
+    Some((n, x))
+}
+
+// Complex orders ------------------------------------------------------------------------------
+
 // A resting complex order of this id.
 pub fn is_complex_of(c: Complex, id: u32) -> bool
     ensures { result ≡ is_complex_of id c }
@@ -183,13 +214,11 @@ pub fn parent_of(numbers: &Numbers, l: Legging) -> Complex
     ensures { result ≡ parent_of (venue_of numbers.now) l }
 {
     let n = places::complexes_used(numbers);
-    let mut i: usize = 0;
-    while i < n {
+    for i in 0..n {
         let c = places::complex_at(numbers, i);
         if is_complex_of(c, l.parent) {
             return c;
         }
-        i += 1;
     }
     rules::NO_COMPLEX
 }
@@ -199,7 +228,7 @@ pub fn status_of(numbers: &Numbers, s: u8) -> u8
     requires { s < 8 }
     ensures { result ≡ status_of (venue_of numbers.now) s }
 {
-    let x = places::listed_at(numbers, s as usize);
+    let x = places::listed_at(numbers, usize::from(s));
     x.status
 }
 

@@ -1,6 +1,5 @@
 -- A message's refusal upon a venue, from the tests that the code makes.
-use Rattle.std.specs.Prelude.{if◌then◌else◌}
-use mathlib.Core.Path.{◌≡◌, refl, ap, ◌∙◌}
+use mathlib.Core.Path.{◌≡◌, refl, ap}
 use mathlib.Core.Bool.{Bool, true, false, not, ◌&&◌, ◌||◌}
 use Prim.Native.Nat.{ℕ}
 use lib.Dec.{leb, ltb, eqb}
@@ -12,13 +11,10 @@ use Rattle.rules.specs.declared.Message.TheVariants.{Cancel, Away, Status, Sweep
 use Rattle.rules.specs.Base.{held, all}
 use Rattle.rules.specs.Words.{closed, status_of}
 use Rattle.rules.specs.Settings.{free_edition}
-use Rattle.rules.specs.Complex.{regular_place, complex_place, rests_regular, rests_complex}
+use Rattle.rules.specs.Complex.{rests_regular, rests_complex}
 use Rattle.rules.specs.Refusals.{complex_in_range, off_increment, edition_too_low, idle, in_use, no_edition_left, id_too_low, on_closed, full, unknown, refusal_of}
 use Rattle.rules.proofs.Widths.{complex-fits}
 use Rattle.levels.specs.Grid.{LegsIn}
-use Rattle.book.specs.declared.Found.{Found}
-use Rattle.book.specs.declared.Found.TheVariants.{At, Nothing}
-use Rattle.book.specs.Picks.{regular_found, complex_found}
 use Rattle.refusals.specs.Editions.{edition_refusal}
 
 -- Fields in range -----------------------------------------------------------------------------
@@ -126,22 +122,3 @@ increment-refusal v s x e t i = ap (λ (y : Bool). edition_refusal v e (not y)) 
 pub percent-refusal : (v : Venue) (x e : ℕ) → edition_refusal v e false ≡ refusal_of v (Percent x e)
 unfolding edition_refusal refusal_of off_increment edition_too_low in_use no_edition_left id_too_low on_closed full unknown
 percent-refusal v x e = refl
-
--- What a find says ----------------------------------------------------------------------------
-
-abbrev pub is_at : Found → Bool
-is_at (At i) = true
-is_at Nothing = false
-
-told : (t : Bool) (i : ℕ) → is_at (if t then At i else Nothing) ≡ t
-told true i = refl
-told false i = refl
-
-module _ (v : Venue) (id : ℕ) where
-  pub regular-told : (x : Found) → x ≡ regular_found v id → is_at x ≡ rests_regular v id
-  unfolding regular_found
-  regular-told x e = ap is_at e ∙ told (rests_regular v id) (regular_place v id)
-
-  pub complex-told : (x : Found) → x ≡ complex_found v id → is_at x ≡ rests_complex v id
-  unfolding complex_found
-  complex-told x e = ap is_at e ∙ told (rests_complex v id) (complex_place v id)

@@ -11,7 +11,6 @@ ghost use Rattle.refusals.specs.Editions.{edition_refusal};
 ghost use Rattle.places.specs.Requirements.{IncrementReady};
 ghost use Rattle.refusals.specs.Requirements.{OrderInRange, ComplexInRange};
 
-use book::Found;
 use places::Numbers;
 use rules::{Complex, Regular};
 
@@ -67,11 +66,7 @@ pub fn complex_refusal(numbers: &Numbers, c: Complex) -> u8
 fn complex_rests(numbers: &Numbers, id: u32) -> bool
     ensures { result ≡ rests_complex (venue_of numbers.now) id }
 {
-    let found = book::complex_place(numbers, id);
-    match found {
-        Found::At(_i) => true,
-        Found::Nothing => false,
-    }
+    book::complex_place(numbers, id).is_some()
 }
 
 // An order with an id rests, in one book or the other.
@@ -79,11 +74,10 @@ pub fn rests(numbers: &Numbers, id: u32) -> bool
     requires { Dense numbers.now }
     ensures { result ≡ (rests_regular (venue_of numbers.now) id || rests_complex (venue_of numbers.now) id) }
 {
-    let found = book::regular_place(numbers, id);
-    match found {
-        Found::At(_i) => true,
-        Found::Nothing => complex_rests(numbers, id),
+    if book::regular_place(numbers, id).is_some() {
+        return true;
     }
+    complex_rests(numbers, id)
 }
 
 // Refusals 11 to 13: of editions ----------------------------------------------------------------

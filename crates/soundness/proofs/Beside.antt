@@ -1,5 +1,5 @@
 -- Laws of what is asked of orders beside one another, as the code tests it.
-use Rattle.std.specs.Prelude.{if◌then◌else◌}
+use Rattle.std.specs.Prelude.{Option, is_some}
 use mathlib.Core.Path.{◌≡◌, refl, sym, ap, ap₂, ◌∙◌}
 use mathlib.Core.Bool.{Bool, true, false, not, ◌&&◌, ◌||◌}
 use mathlib.Core.List.{List, [], ◌∷◌, ◌++◌}
@@ -20,14 +20,14 @@ use Rattle.rules.specs.Settings.{increment}
 use Rattle.rules.specs.Prices.{best_own}
 use Rattle.rules.specs.Refusals.{on_increment}
 use Rattle.rules.specs.Standing.{has_leg, parent_of, verdict, stands}
-use Rattle.rules.specs.Complex.{rests_complex, complex_place}
+use Rattle.rules.specs.Complex.{rests_complex}
 use Rattle.rules.specs.Places.{blank_legging}
 use Rattle.rules.specs.Sound.{apart, legging_sound, leggings_sound, ids_distinct, follows}
 use Rattle.places.specs.Layout.{upto, in_use, regular_in, regulars_used, legging_in, edition_in, venue_of}
 use Rattle.levels.proofs.Scans.{upto-on, upto-end}
-use Rattle.book.specs.declared.Found.{Found}
-use Rattle.book.specs.declared.Found.TheVariants.{At, Nothing}
 use Rattle.book.specs.Picks.{complex_found}
+use Rattle.std.proofs.Math.Bool.{not-not}
+use Rattle.book.proofs.FirstPlace.{complex-found}
 use Rattle.soundness.specs.Checked.{priced_on, on_increments, is_alone, eight, legging_in_range, has_home}
 use Rattle.sound_places.proofs.Passes.{all_past, all-stop, all_none, and_assoc}
 use Rattle.rules.proofs.Ranges.{inside, within-top}
@@ -83,26 +83,14 @@ pub alone-free : (v : Venue) (o : Regular) → o.quantity ≡ 0 → true ≡ is_
 unfolding is_alone
 alone-free v o h = rw (eq-eqb o.quantity 0 h)
 
-module _ (v : Venue) (o : Regular) (h : o.quantity ≡ 0 → ⊥) (r : Found) (e : r ≡ complex_found v o.id) where
-  alone-held : is_alone v o ≡ not (rests_complex v o.id)
+module _ (v : Venue) (o : Regular) (h : o.quantity ≡ 0 → ⊥) where
+  alone-held : not (rests_complex v o.id) ≡ is_alone v o
   unfolding is_alone
   alone-held = rw (ne_eqb o.quantity 0 h)
 
-  pub alone-none : r ≡ Nothing → true ≡ is_alone v o
-  unfolding complex_found
-  alone-none q = go (rests_complex v o.id) refl (sym q ∙ e)
-    where
-      go : (t : Bool) → rests_complex v o.id ≡ t → Nothing ≡ (if t then At (complex_place v o.id) else Nothing) → true ≡ is_alone v o
-      go true w z = let y : ◌≡◌ {A = ℕ} 0 1 = cc in absurd (omega arith)
-      go false w z = sym (alone-held ∙ ap not w)
-
-  pub alone-found : (i : ℕ) → r ≡ At i → false ≡ is_alone v o
-  unfolding complex_found
-  alone-found i q = go (rests_complex v o.id) refl (sym q ∙ e)
-    where
-      go : (t : Bool) → rests_complex v o.id ≡ t → At i ≡ (if t then At (complex_place v o.id) else Nothing) → false ≡ is_alone v o
-      go true w z = sym (alone-held ∙ ap not w)
-      go false w z = let y : ◌≡◌ {A = ℕ} 0 1 = cc in absurd (omega arith)
+  -- it is alone where no complex order has its id
+  pub alone-none : (r : Option ℕ) → r ≡ complex_found v o.id → (t : Bool) → is_some r ≡ not t → t ≡ is_alone v o
+  alone-none r e t n = sym (not-not t) ∙ ap not (sym n ∙ ap is_some e ∙ complex-found v o.id) ∙ alone-held
 
 distinct-is : (v : Venue) → all (is_alone v) v.regular ≡ ids_distinct v
 unfolding ids_distinct is_alone

@@ -12,7 +12,6 @@ ghost use Rattle.soundness.specs.Checked.{priced_on, on_increments, is_alone, ei
 ghost use Rattle.levels.specs.Requirements.{GridReady, GridPlaceReady};
 ghost use Rattle.places.specs.Requirements.{IncrementReady, RightSeries};
 
-use book::Found;
 use places::{Level, Numbers};
 use rules::{Complex, Legging, Regular, Venue};
 
@@ -54,10 +53,7 @@ fn is_alone(numbers: &Numbers, o: Regular) -> bool
     if o.quantity == 0 {
         return true;
     }
-    let Found::Nothing = book::complex_place(numbers, o.id) else {
-        return false;
-    };
-    true
+    book::complex_place(numbers, o.id).is_none()
 }
 
 // No id rests in both books.

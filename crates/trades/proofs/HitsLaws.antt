@@ -1,5 +1,5 @@
 -- Laws of pairs, hits and cancels, for the code that does them step by step.
-use Rattle.std.specs.Prelude.{if◌then◌else◌}
+use Rattle.std.specs.Prelude.{if◌then◌else◌, Option, Some, None, unwrap_or}
 use mathlib.Core.Path.{◌≡◌, refl, sym, ap, ◌∙◌}
 use mathlib.Core.Bool.{Bool, true, false, true≢false}
 use mathlib.Core.List.{List, [], ◌∷◌}
@@ -32,7 +32,6 @@ use Rattle.places.specs.Layout.{complexes_used, complex_in, venue_of}
 use Rattle.places.proofs.Parts.{complex-past, complexes-few}
 use Rattle.places.proofs.Tables.{used-length}
 use Rattle.levels.specs.Grid.{LegsIn}
-use Rattle.book.specs.declared.Found.TheVariants as found
 use Rattle.book.specs.Picks.{complex_found}
 use Rattle.book.proofs.FirstPlace.{found_in, found-is, found-not}
 use Rattle.trades.specs.declared.Pairing.{Pairing}
@@ -65,15 +64,19 @@ not_found f d (x ∷ l) h = go (f x) refl h (not_found f d l)
     go false e k r = ap suc (r k)
 
 module _ (b : List ℕ) (id : ℕ) where
-  pub place_found : (j : ℕ) → found.At j ≡ complex_found (venue_of b) id → j ≡ complex_place (venue_of b) id
+  pub place_found : (j : ℕ) → Some j ≡ complex_found (venue_of b) id → j ≡ complex_place (venue_of b) id
   unfolding complex_found rests_complex complex_place complex_at found_in
   place_found j e = sym (found-is (is_complex_of id) no_complex (venue_of b).complex j e).0
 
-  pub place-nothing : found.Nothing ≡ complex_found (venue_of b) id → 32 ≡ complex_place (venue_of b) id
+  pub place-nothing : None ≡ complex_found (venue_of b) id → 32 ≡ complex_place (venue_of b) id
   unfolding complex_found rests_complex complex_place complex_at found_in
   place-nothing e =
       sym (not_found (is_complex_of id) no_complex (venue_of b).complex (found-not (is_complex_of id) no_complex (venue_of b).complex e)
       ∙ (unfold venue_of in used-length (complex_in b) no_complex (complexes_used b) 32 (complexes-few b)))
+
+  pub place_end : (x : Option ℕ) → x ≡ complex_found (venue_of b) id → unwrap_or x 32 ≡ complex_place (venue_of b) id
+  place_end None e = place-nothing e
+  place_end (Some j) e = place_found j e
 
 -- Pairs ---------------------------------------------------------------------------------------
 

@@ -1,4 +1,5 @@
 -- Laws of trading and taking, for the code that does them.
+use Rattle.std.specs.Prelude.{Some, None}
 use mathlib.Core.Path.{◌≡◌, refl, sym, ap, ap₂, ◌∙◌}
 use mathlib.Core.Bool.{Bool, true, false, not}
 use mathlib.Core.List.{List, [], ◌∷◌, ◌++◌}
@@ -21,7 +22,6 @@ use Rattle.records.specs.Seen.{seen, ◌writes◌}
 use Rattle.records.specs.Stage.{stage, ◌does◌}
 use Rattle.records.proofs.StageLaws.{onward, does-nothing, does-report, does-room}
 use Rattle.places.specs.Layout.{size, regulars_used, venue_of, SameCounts}
-use Rattle.book.specs.declared.Pick.TheVariants as pick
 use Rattle.book.specs.Picks.{pick_of}
 use Rattle.book.proofs.PicksLaws.{picked-is, nobody-is, regular-used, for-free}
 use Rattle.places.proofs.Beside.{counts-on}
@@ -98,16 +98,16 @@ module _ (taker s d p : ℕ) where
           ]
         ]) e h
 
-    pub at-price-out : (k : ℕ) → 0 < k → pick.Nobody ≡ pick_of (wanted v) → nothing v ≡ trade_at_price k taker s d p k v
+    pub at-price-out : (k : ℕ) → 0 < k → None ≡ pick_of (wanted v) → nothing v ≡ trade_at_price k taker s d p k v
     at-price-out zero n e = absurd (omega arith)
     at-price-out (suc k) n e = sym (at-price-by k (suc k) true nobody (ap not (ne_eqb (suc k) 0 (λ z. omega arith))) (nobody-is _ e))
 
-    more : (f i : ℕ) (o : Regular) → pick.At i o ≡ pick_of (wanted v) →
+    more : (f i : ℕ) (o : Regular) → Some (i, o) ≡ pick_of (wanted v) →
         trade_at_price (suc f) taker s d p (suc f) v ≡ (trade_with taker d i (min (suc f) (shown_size o)) v ⟫ trade_at_price f taker s d p (suc f - min (suc f) (shown_size o)))
     more f i o e = at-price-by f (suc f) true (picked i o) (ap not (ne_eqb (suc f) 0 (λ z. omega arith))) (picked-is _ i o e)
 
     -- a turn of the loop takes q contracts, at least one
-    module _ (k i : ℕ) (o : Regular) (q : ℕ) (n : 0 < k) (e : pick.At i o ≡ pick_of (wanted v)) (r : q ≡ min k (shown_size o)) where
+    module _ (k i : ℕ) (o : Regular) (q : ℕ) (n : 0 < k) (e : Some (i, o) ≡ pick_of (wanted v)) (r : q ≡ min k (shown_size o)) where
       pub at-price-some : 0 < q
       at-price-some =
           let x = shows-some s (opposite d) p o (rw (picked-is _ i o e) at (first-chosen no_regular (shows_for s (opposite d) p) earlier v.regular)).is in
@@ -145,17 +145,17 @@ module _ {taker s d p k : ℕ} {b₀ out₀ b out : List ℕ} {at pos left : ℕ
       let z : left ≡ 0 = omega arith in
       taken_out (rw z (at-price-done taker s d p 0 (venue_of b)))
 
-  pub taking-none : (other : ℕ) → 0 < left → other ≡ opposite d → pick.Nobody ≡ pick_of (first (shows_for s other p) earlier (venue_of b).regular) →
+  pub taking-none : (other : ℕ) → 0 < left → other ≡ opposite d → None ≡ pick_of (first (shows_for s other p) earlier (venue_of b).regular) →
       (stage (venue_of b) out pos ≡ seen out₀ at does trade_at_price k taker s d p k (venue_of b₀)) × SameCounts b₀ b
   taking-none other h eo e =
       taken_out (at-price-out taker s d p (venue_of b) left h (e ∙ ap (λ (x : ℕ). pick_of (first (shows_for s x p) earlier (venue_of b).regular)) eo))
 
   module _ (other j : ℕ) (o : Regular) (q : ℕ) (h : 0 < left) (eo : other ≡ opposite d)
-      (e : pick.At j o ≡ pick_of (first (shows_for s other p) earlier (venue_of b).regular)) (x : ℕ) (ex : x ≡ shown_size o) (r : q ≡ min x left) where
+      (e : Some (j, o) ≡ pick_of (first (shows_for s other p) earlier (venue_of b).regular)) (x : ℕ) (ex : x ≡ shown_size o) (r : q ≡ min x left) where
     taken : q ≡ min left (shown_size o)
     taken = omega arith
 
-    found : pick.At j o ≡ pick_of (first (shows_for s (opposite d) p) earlier (venue_of b).regular)
+    found : Some (j, o) ≡ pick_of (first (shows_for s (opposite d) p) earlier (venue_of b).regular)
     found = e ∙ ap (λ (x : ℕ). pick_of (first (shows_for s x p) earlier (venue_of b).regular)) eo
 
     pub taking-used : j < regulars_used b

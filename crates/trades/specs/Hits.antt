@@ -4,7 +4,6 @@ use Rattle.rules.specs.declared.Legging.{Legging}
 use Rattle.rules.specs.declared.Venue.{Venue}
 use Rattle.rules.specs.Words.{opposite, sign_times}
 use Rattle.rules.specs.Standing.{other_leg, other_clear, parent_of}
-use Rattle.rules.specs.Order.{hit}
 use Rattle.trades.specs.declared.Pairing.{Pairing}
 
 -- what a hit of the legging order l by an order of side d in series s pairs: the complex order, its other leg with the clear price, the net

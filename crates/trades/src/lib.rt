@@ -14,7 +14,6 @@ ghost use Rattle.trades.specs.Hits.{pairing_of};
 ghost use Rattle.places.specs.Requirements.{RegularsReady, RightRegular};
 
 use arithmetic::opposite_of;
-use book::{Found, Pick};
 use places::Numbers;
 use rules::{Cause, Legging};
 
@@ -41,10 +40,7 @@ fn trade_with(
 pub fn at_most(q: u32, n: u64) -> u32
     ensures { result ≡ min q n }
 {
-    if n < (q as u64) {
-        return n as u32;
-    }
-    q
+    u64::from(q).min(n) as u32
 }
 
 // A taker of a side takes contracts that are shown at a price in a series, by id, until it has all or none are left there.
@@ -67,12 +63,12 @@ pub fn trade_at_price(
     let mut left = quantity;
     while 0 < left {
         let found = book::first_for(numbers, series, other, price);
-        let Pick::At(j, m) = found else {
+        let Some((j, m)) = found else {
             return pos;
         };
         let k = at_most(arithmetic::shown_size(m), left);
         pos = trade_with(numbers, taker, side, j, k, out, pos);
-        left -= k as u64;
+        left -= u64::from(k);
     }
     pos
 }
@@ -107,7 +103,7 @@ pub fn pair_off(
 }
 
 // What a hit pairs: the complex order, its other leg with the clear price, and the net.
-#[derive(Clone, Copy)]
+#[derive(Clone, Copy, Debug, PartialEq, Eq)]
 pub struct Pairing {
     pub id: u32,
     pub series: u8,
@@ -141,11 +137,7 @@ fn pairing_of(numbers: &Numbers, l: Legging, series: u8, side: u8) -> Pairing
 fn place_or_end(numbers: &Numbers, id: u32) -> usize
     ensures { result ≡ complex_place (venue_of numbers.now) id }
 {
-    let found = book::complex_place(numbers, id);
-    match found {
-        Found::At(j) => j,
-        Found::Nothing => 32,
-    }
+    book::complex_place(numbers, id).unwrap_or(32)
 }
 
 // The order at place i hits a legging order for k contracts: the trade, then the pairing.
@@ -159,7 +151,14 @@ pub fn hit(numbers: &mut Numbers, i: usize, l: Legging, k: u32, out: &mut [u8], 
     levels::fill_order(numbers, i, k);
     let traded = records::emit_trade(out, at, o.series, o.side, l.price, k, o.id, p.id);
     let taken = trade_at_price(
-        numbers, p.id, p.series, p.side, p.clear, k as u64, out, traded,
+        numbers,
+        p.id,
+        p.series,
+        p.side,
+        p.clear,
+        u64::from(k),
+        out,
+        traded,
     );
     let j = place_or_end(numbers, p.id);
     pair_off(numbers, j, p.id, p.net, k, out, taken)

@@ -1,6 +1,5 @@
 -- `book::complex_place` meets its contract.
 use mathlib.Core.Path.{sym, ap, ◌∙◌}
-use mathlib.Core.Bool.{false}
 use native.Mathlib.Omega.{arith}
 use Rattle.rules.specs.Words.{complex_at, is_complex_of}
 use Rattle.rules.specs.Complex.{rests_complex, complex_place}
@@ -12,7 +11,7 @@ use borrow.Author.Rules.{rules}
 use Rattle.book.proofs.complex_place.Goals as goal
 
 pub loop-i-init : goal.loop-i-init
-loop-i-init c = (search rules, λ j q. absurd (omega arith))
+loop-i-init c = λ j q. absurd (omega arith)
 
 pub complex_at-c-requires : goal.complex_at-c-requires
 complex_at-c-requires c = let w = complexes-few c.args.numbers.now in search rules
@@ -22,21 +21,16 @@ unfolding complex_found rests_complex complex_place complex_at venue_of found_in
 returns-then-is_complex_of c =
     let b = c.args.numbers.now in
     found_at (is_complex_of c.args.id) _ (complex-free _) (complex_in b) (complexes_used b) 32 (complexes-few b) _ (omega arith)
-    (ap (λ x. is_complex_of c.args.id x) (sym c.complex_at-c.ensures) ∙ sym c.is_complex_of.ensures ∙ c.if-is_complex_of.true) c.loop-i.invariant.1
-
-pub overflow_add-i : goal.overflow_add-i
-overflow_add-i c = let w = complexes-few c.args.numbers.now in search rules
+    (ap (λ x. is_complex_of c.args.id x) (sym c.complex_at-c.ensures) ∙ sym c.is_complex_of.ensures ∙ c.if-is_complex_of.true) c.loop-i.invariant
 
 pub loop-i-preserved : goal.loop-i-preserved
-loop-i-preserved c = (
-  omega arith,
-  passed_on (is_complex_of c.args.id) (complex_in c.args.numbers.now) _ c.loop-i.invariant.1
-      (ap (λ x. is_complex_of c.args.id x) (sym c.complex_at-c.ensures) ∙ sym c.is_complex_of.ensures ∙ c.if-is_complex_of.false),
-)
+loop-i-preserved c =
+    passed_on (is_complex_of c.args.id) (complex_in c.args.numbers.now) _ c.loop-i.invariant
+    (ap (λ x. is_complex_of c.args.id x) (sym c.complex_at-c.ensures) ∙ sym c.is_complex_of.ensures ∙ c.if-is_complex_of.false)
 
 pub returns : goal.returns
 unfolding complex_found rests_complex complex_place complex_at venue_of found_in
 returns c =
     let b = c.args.numbers.now in
     found_none (is_complex_of c.args.id) _ (complex-free _) (complex_in b) (complexes_used b) 32 (complexes-few b)
-    (λ j q. c.loop-i.invariant.1 j (omega arith))
+    (λ j q. c.loop-i.invariant j (omega arith))

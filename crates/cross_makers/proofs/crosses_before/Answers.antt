@@ -1,8 +1,6 @@
 -- `cross_makers::crosses_before` meets its contract.
 use Rattle.cross_makers.proofs.Limits.{test-is}
 use Rattle.cross_makers.proofs.Candidates.{rank-higher, rank-lower, rank-equal}
-use Rattle.cross_makers.proofs.crosses_before.Reads as reads
-use Rattle.cross_makers.proofs.crosses_before.Lts as lts
 use Rattle.cross_makers.proofs.crosses_before.Goals as goal
 
 pub returns-then-y-x : goal.returns-then-y-x

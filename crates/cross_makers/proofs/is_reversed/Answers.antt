@@ -1,9 +1,6 @@
 -- `cross_makers::is_reversed` meets its contract.
 use mathlib.Core.Path.{sym, ◌∙◌}
 use Rattle.rules.specs.Complex.{reversed}
-use Rattle.cross_makers.proofs.is_reversed.Reads as reads
-use Rattle.cross_makers.proofs.is_reversed.Lts as lts
-use Rattle.cross_makers.proofs.legs_face.Reads as legs-face-reads
 use Rattle.cross_makers.proofs.is_reversed.Goals as goal
 
 pub returns-then-legs_face : goal.returns-then-legs_face

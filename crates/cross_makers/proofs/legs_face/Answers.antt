@@ -1,9 +1,6 @@
 -- `cross_makers::legs_face` meets its contract.
 use borrow.Author.Tests.{eq-eqb, ne_eqb}
 use Rattle.cross_makers.proofs.Candidates.{last-faces}
-use Rattle.cross_makers.proofs.legs_face.Reads as reads
-use Rattle.cross_makers.proofs.legs_face.Lts as lts
-use Rattle.arithmetic.proofs.opposite_of.Reads as opposite-of-reads
 use Rattle.cross_makers.proofs.legs_face.Goals as goal
 
 pub returns-then-c-s : goal.returns-then-c-s

@@ -4,8 +4,6 @@ use native.Mathlib.Omega.{arith}
 use lib.IntN.{ℤ, pos, ◌+ℤ◌}
 use lib.Signed.{le_z}
 use Rattle.rules.proofs.Machine.{sum_fits, sum-ok}
-use Rattle.cross_makers.proofs.limits_meet.Reads as reads
-use Rattle.cross_makers.proofs.limits_meet.Lts as lts
 use Rattle.cross_makers.proofs.limits_meet.Goals as goal
 
 pub overflow_add-result : goal.overflow_add-result

@@ -4,8 +4,6 @@ use native.Mathlib.Omega.{arith}
 use lib.IntN.{nat_abs, neg_ℤ}
 use Rattle.rules.proofs.Integers.{abs_neg}
 use Rattle.cross_makers.proofs.Limits.{minus-fits, minus_is}
-use Rattle.cross_makers.proofs.net_against.Reads as reads
-use Rattle.cross_makers.proofs.net_against.Lts as lts
 use Rattle.cross_makers.proofs.net_against.Goals as goal
 
 pub overflow_sub-result : goal.overflow_sub-result

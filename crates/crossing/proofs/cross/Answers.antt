@@ -3,15 +3,7 @@ use mathlib.Core.Path.{sym, ◌∙◌}
 use native.Mathlib.Omega.{arith}
 use Rattle.rules.proofs.Machine.{back}
 use Rattle.places.proofs.Parts.{complexes-few, complex-at}
-use Rattle.places.proofs.Beside.{counts-on}
 use Rattle.crossing.proofs.CrossLaws.{cross-law}
-use Rattle.crossing.proofs.cross.Reads as reads
-use Rattle.crossing.proofs.cross.Lts as lts
-use Rattle.cross_makers.proofs.net_against.Reads as net-against-reads
-use Rattle.places.proofs.complex_at.Reads as complex-at-reads
-use Rattle.place_writes.proofs.fill_complex.Reads as fill-complex-reads
-use Rattle.removal.proofs.remove_of.Reads as remove-of-reads
-use Rattle.records.proofs.emit_crossed.Reads as emit-crossed-reads
 use Rattle.crossing.proofs.cross.Goals as goal
 
 pub complex_at-c-requires : goal.complex_at-c-requires
@@ -22,24 +14,17 @@ pub complex_at-m-requires : goal.complex_at-m-requires
 complex_at-m-requires c = let z = complexes-few c.args.numbers.now in
     omega (arith, c.requires.second)
 
-pub returns : goal.returns
-returns c = record {
-  result_after = cross-law c.args.i c.args.j c.args.k _ _ _ _ _ _ _ _ _ _ _ _ _ _ _ _
-      (c.complex_at-c.ensures
-      ∙ sym (complex-at c.args.numbers.now c.args.i c.requires.first))
-      (c.complex_at-m.ensures
-      ∙ sym (complex-at c.args.numbers.now c.args.j c.requires.second))
-      (back {z = c.net_against.result}
-      (record {
-        sfits = c.net_against.type_inv;
-      }) ∙ c.net_against.ensures.0)
-      c.fill_complex.ensures.numbers_after
-      c.fill_complex-2.ensures.numbers_after
-      c.emit_crossed-told.ensures c.remove_of-gone.ensures.result_after
-      c.remove_of.ensures.result_after;
-  counts = counts-on _ _ _ (counts-on _ _ _
-      c.fill_complex.ensures.counts
-      c.fill_complex-2.ensures.counts)
-      (counts-on _ _ _ c.remove_of-gone.ensures.counts
-      c.remove_of.ensures.counts);
-}
+pub returns-clause-result_after : goal.returns-clause-result_after
+returns-clause-result_after c = cross-law c.args.i c.args.j c.args.k _ _ _ _ _ _ _ _ _ _ _ _ _ _ _ _
+    (c.complex_at-c.ensures
+    ∙ sym (complex-at c.args.numbers.now c.args.i c.requires.first))
+    (c.complex_at-m.ensures
+    ∙ sym (complex-at c.args.numbers.now c.args.j c.requires.second))
+    (back {z = c.net_against.result}
+    (record {
+      sfits = c.net_against.type_inv;
+    }) ∙ c.net_against.ensures.0)
+    c.fill_complex.ensures.numbers_after
+    c.fill_complex-2.ensures.numbers_after
+    c.emit_crossed-told.ensures c.remove_of-gone.ensures.result_after
+    c.remove_of.ensures.result_after

@@ -1,17 +1,10 @@
+use Prim.Native.Nat.{◌-◌}
 use Rattle.rules.specs.Effects.{repeat}
 use Rattle.removal.proofs.Loops.{Doing}
 use Rattle.rules.specs.Words.{complex_at}
 use Rattle.rules.specs.Complex.{cross_turn}
 use Rattle.places.specs.Layout.{venue_of}
-use Rattle.crossing.proofs.cross_all.Reads as reads
-use Rattle.crossing.proofs.cross_all.Lts as lts
-use Rattle.crossing.proofs.cross.Reads as cross-reads
-use Rattle.cross_makers.proofs.first_cross.Reads as first-cross-reads
-use Rattle.places.proofs.complex_at.Reads as complex-at-reads
 use Rattle.crossing.proofs.cross_all.Given as goal
 
-abbrev pub invariant-loop-turns : goal.invariant-loop-turns
-invariant-loop-turns l = Doing (repeat (complex_at (venue_of l.initial.numbers) l.i).quantity (cross_turn l.i) (venue_of l.initial.numbers)) (repeat l.turns (cross_turn l.i)) l.initial.numbers l.initial.out l.at l.numbers l.out l.pos
-
-abbrev pub decreases-loop-turns : goal.decreases-loop-turns
-decreases-loop-turns l = l.turns
+abbrev pub invariant-loop : goal.invariant-loop
+invariant-loop l = Doing (repeat (complex_at (venue_of l.initial.numbers) l.i).quantity (cross_turn l.i) (venue_of l.initial.numbers)) (repeat (l.end - l.counter) (cross_turn l.i)) l.initial.numbers l.initial.out l.at l.numbers l.out l.pos

@@ -1,4 +1,8 @@
 -- `crossing::fills_unit` meets its contract.
+use mathlib.Core.Path.{ap, ◌∙◌}
+use Prim.Native.Nat.{ℕ}
+use native.Mathlib.Omega.{arith}
+use lib.Dec.{leb}
 use Rattle.levels.proofs.Sides.{opposite-in}
 use Rattle.crossing.proofs.Touches.{unit-short, unit-second}
 use Rattle.crossing.proofs.fills_unit.Goals as goal
@@ -8,9 +12,9 @@ own_size-first-requires c =
     let p = c.requires in
     record { level = rw c.opposite_of.ensures p.taken.first; series = p.legs.first; side = rw c.opposite_of.ensures (opposite-in _) }
 
-pub returns-then-first-c : goal.returns-then-first-c
-returns-then-first-c c =
-    unit-short _ c.args.c _ _ c.opposite_of.ensures c.own_size-first.ensures c.if-first-c.true
+pub returns-then-first-from : goal.returns-then-first-from
+returns-then-first-from c =
+    unit-short _ c.args.c _ _ c.opposite_of.ensures c.own_size-first.ensures (omega (arith, c.from.ensures, c.if-first-from.true))
 
 pub own_size-second-requires : goal.own_size-second-requires
 own_size-second-requires c =
@@ -19,5 +23,6 @@ own_size-second-requires c =
 
 pub returns : goal.returns
 returns c =
-    unit-second _ c.args.c _ _ c.opposite_of.ensures c.own_size-first.ensures c.if-first-c.false _ _
+    ap (λ (k : ℕ). leb k c.own_size-second.result) c.from-2.ensures
+    ∙ unit-second _ c.args.c _ _ c.opposite_of.ensures c.own_size-first.ensures (omega (arith, c.from.ensures, c.if-first-from.false)) _ _
     c.opposite_of-2.ensures c.own_size-second.ensures

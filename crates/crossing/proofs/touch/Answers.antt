@@ -1,5 +1,5 @@
 -- `crossing::touch` meets its contract.
-use mathlib.Core.Path.{refl, sym, subst, ◌∙◌}
+use mathlib.Core.Path.{sym, subst, ◌∙◌}
 use native.Mathlib.Omega.{arith}
 use Rattle.rules.specs.Words.{opposite, place_of}
 use Rattle.places.proofs.Parts.{complexes-few, complex-at}
@@ -26,9 +26,9 @@ can_touch-requires c =
       legs = subst LegsIn (sym c.complex_at-c.ensures) (legs-in a.numbers.now a.i);
     }
 
-pub returns-then-not-can_touch : goal.returns-then-not-can_touch
-returns-then-not-can_touch c =
-    let a = c.args in record { result_after = touch-not a.i _ _ (c.complex_at-c.ensures ∙ sym (complex-at a.numbers.now a.i c.requires.in_use)) _ _ (off _ _ c.can_touch.ensures c.if-not-can_touch.true-raw); counts = record { regulars = refl; complexes = refl; right = λ h. h } }
+pub returns-then-not-can_touch-clause-result_after : goal.returns-then-not-can_touch-clause-result_after
+returns-then-not-can_touch-clause-result_after c =
+    let a = c.args in touch-not a.i _ _ (c.complex_at-c.ensures ∙ sym (complex-at a.numbers.now a.i c.requires.in_use)) _ _ (off _ _ c.can_touch.ensures c.if-not-can_touch.true-raw)
 
 pub touch_cause-cause-requires : goal.touch_cause-cause-requires
 touch_cause-cause-requires c = (let a = c.args in record {
@@ -42,10 +42,8 @@ remove_at-requires c =
     let z = subst LegsIn (sym c.complex_at-c.ensures) (legs-in c.args.numbers.now c.args.i) in
     record { first = omega arith; second = omega arith }
 
-pub returns : goal.returns
-returns c =
-    let a = c.args in record {
-      result_after = touch-both a.i _ _ (c.complex_at-c.ensures ∙ sym (complex-at a.numbers.now a.i c.requires.in_use)) _ _ _ _ _ (on _ _ c.can_touch.ensures c.if-not-can_touch.false-raw) _
-          c.touch_cause-cause.ensures _ _ _ _ c.opposite_of.ensures c.place_of-one.ensures c.opposite_of-2.ensures c.place_of-two.ensures c.remove_at.ensures.result_after;
-      counts = c.remove_at.ensures.counts;
-    }
+pub returns-clause-result_after : goal.returns-clause-result_after
+returns-clause-result_after c =
+    let a = c.args in
+    touch-both a.i _ _ (c.complex_at-c.ensures ∙ sym (complex-at a.numbers.now a.i c.requires.in_use)) _ _ _ _ _ (on _ _ c.can_touch.ensures c.if-not-can_touch.false-raw) _
+    c.touch_cause-cause.ensures _ _ _ _ c.opposite_of.ensures c.place_of-one.ensures c.opposite_of-2.ensures c.place_of-two.ensures c.remove_at.ensures.result_after

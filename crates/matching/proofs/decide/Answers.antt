@@ -31,8 +31,8 @@ pub returns-then-legging_first : goal.returns-then-legging_first
 unfolding turn_of
 returns-then-legging_first c = (
   none-hit c.args.i (venue_of c.args.numbers.now) _ (c.regular_at-o.ensures ∙ sym (regular-at c.args.numbers.now c.args.i c.requires.in_use))
-      _ c.if-o-eq0.false c.facing-l.ensures _ (sym c.in-Nobody.is ∙ c.first_met-found.ensures)
-      (sym c.legging_first.ensures ∙ c.if-legging_first.true) c.lesser.ensures,
+      _ c.if-o-eq0.false c.facing-l.ensures _ (sym c.in-None.is ∙ c.first_met-found.ensures)
+      (sym c.legging_first.ensures ∙ c.if-legging_first.true) c.min.ensures,
   tt,
 )
 
@@ -40,8 +40,8 @@ pub returns-then-legging_first-2 : goal.returns-then-legging_first-2
 unfolding turn_of
 returns-then-legging_first-2 c = (
   some-hit c.args.i (venue_of c.args.numbers.now) _ (c.regular_at-o.ensures ∙ sym (regular-at c.args.numbers.now c.args.i c.requires.in_use))
-      _ c.if-o-eq0.false c.facing-l.ensures _ _ (sym c.in-At.is ∙ c.first_met-found.ensures) _
-      (sym c.legging_first-in-At.ensures ∙ c.if-legging_first-2.true) c.lesser-then-legging_first-2.ensures,
+      _ c.if-o-eq0.false c.facing-l.ensures _ _ (sym c.in-Some.is ∙ c.first_met-found.ensures) _
+      (sym c.legging_first-in-Some.ensures ∙ c.if-legging_first-2.true) c.min-then-legging_first-2.ensures,
   tt,
 )
 
@@ -49,7 +49,7 @@ pub returns-else-legging_first : goal.returns-else-legging_first
 unfolding turn_of
 returns-else-legging_first c = (
   none_end c.args.i (venue_of c.args.numbers.now) _ (c.regular_at-o.ensures ∙ sym (regular-at c.args.numbers.now c.args.i c.requires.in_use))
-      _ c.if-o-eq0.false c.facing-l.ensures (sym c.in-Nobody.is ∙ c.first_met-found.ensures)
+      _ c.if-o-eq0.false c.facing-l.ensures (sym c.in-None.is ∙ c.first_met-found.ensures)
       (sym c.legging_first.ensures ∙ c.if-legging_first.false),
   tt,
 )
@@ -57,9 +57,9 @@ returns-else-legging_first c = (
 pub returns-else-legging_first-2 : goal.returns-else-legging_first-2
 unfolding turn_of
 returns-else-legging_first-2 c =
-    let e = sym c.in-At.is ∙ c.first_met-found.ensures in (
+    let e = sym c.in-Some.is ∙ c.first_met-found.ensures in (
       some-meet c.args.i (venue_of c.args.numbers.now) _
           (c.regular_at-o.ensures ∙ sym (regular-at c.args.numbers.now c.args.i c.requires.in_use)) _ c.if-o-eq0.false c.facing-l.ensures _ _ e _ _
-          (sym c.legging_first-in-At.ensures ∙ c.if-legging_first-2.false) c.at_once.ensures c.lesser-in-At.ensures,
+          (sym c.legging_first-in-Some.ensures ∙ c.if-legging_first-2.false) c.at_once.ensures c.min-in-Some.ensures,
       met-used c.args.numbers.now _ _ _ _ _ e,
     )

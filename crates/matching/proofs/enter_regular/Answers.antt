@@ -30,14 +30,12 @@ meet_all-requires c =
     let a = c.add_order.ensures.counts in
     record { in_use = omega (arith, a.regulars, c.regulars_used-i.ensures.0); right = a.right c.requires.dense.right }
 
-pub returns : goal.returns
-returns c =
+pub returns-clause-result_after : goal.returns-clause-result_after
+returns-clause-result_after c =
     let a = c.add_order.ensures in
     let m = c.meet_all.ensures in
     let u = c.regulars_used-i.ensures.0 in
-    let v = venue_of c.args.numbers.now in record {
-      result_after = m.result_after
-          ∙ ap (λ (e : Effect). seen c.args.out.now c.args.at does e)
-          (enter-law c.args.o v _ _ (u ∙ sym (dense-regular c.args.numbers.now c.requires.dense)) (a.numbers_after ∙ ap (λ (k : ℕ). put_regular k c.args.o v) (sym u)));
-      counts = record { regulars = m.counts.regulars ∙ a.counts.regulars; complexes = m.counts.complexes ∙ a.counts.complexes; right = λ h. m.counts.right (a.counts.right h) };
-    }
+    let v = venue_of c.args.numbers.now in
+    m.result_after
+    ∙ ap (λ (e : Effect). seen c.args.out.now c.args.at does e)
+    (enter-law c.args.o v _ _ (u ∙ sym (dense-regular c.args.numbers.now c.requires.dense)) (a.numbers_after ∙ ap (λ (k : ℕ). put_regular k c.args.o v) (sym u)))

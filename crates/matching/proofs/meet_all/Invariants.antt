@@ -1,9 +1,7 @@
+use Prim.Native.Nat.{◌-◌}
 use Rattle.rules.specs.Order.{meet_turn}
 use Rattle.matching.proofs.TurnsLaws.{Turning}
 use Rattle.matching.proofs.meet_all.Given as goal
 
-abbrev pub invariant-loop-turns : goal.invariant-loop-turns
-invariant-loop-turns l = Turning (meet_turn l.i) l.quantity l.initial.numbers l.initial.out l.at l.numbers l.out l.pos l.turns
-
-abbrev pub decreases-loop-turns : goal.decreases-loop-turns
-decreases-loop-turns l = l.turns
+abbrev pub invariant-loop : goal.invariant-loop
+invariant-loop l = Turning (meet_turn l.i) l.quantity l.initial.numbers l.initial.out l.at l.numbers l.out l.pos (l.quantity - l.counter)

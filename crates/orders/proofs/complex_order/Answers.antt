@@ -5,8 +5,7 @@ use native.Mathlib.Omega.{arith}
 use Rattle.rules.specs.Trading.{put_complex}
 use Rattle.places.specs.Layout.{venue_of}
 use Rattle.place_writes.proofs.Closed.{dense-complex}
-use Rattle.places.proofs.Beside.{counts-on}
-use Rattle.orders.proofs.OrderLaws.{complex-law, counts-more}
+use Rattle.orders.proofs.OrderLaws.{complex-law}
 use Rattle.orders.proofs.complex_order.Goals as goal
 
 pub work-worked-requires : goal.work-worked-requires
@@ -24,10 +23,7 @@ pub generate_order-requires : goal.generate_order-requires
 generate_order-requires c =
     c.settle_all-settled.ensures.counts.right (c.work-worked.ensures.counts.right (c.add_complex.ensures.counts.right c.requires.dense.right))
 
-pub returns : goal.returns
-returns c =
-    record {
-      result_after = complex-law c.args.number c.args.c _ _ _ _ _ _ _ _ _ _ _ _ _ _ (c.complexes_used-i.ensures.0 ∙ sym (dense-complex c.args.numbers.now c.requires.dense))
-          (c.add_complex.ensures.numbers_after ∙ ap (λ (k : ℕ). put_complex k c.args.c (venue_of c.args.numbers.now)) (sym c.complexes_used-i.ensures.0)) c.work-worked.ensures.result_after c.settle_all-settled.ensures.result_after c.generate_order.ensures.result_after;
-      counts = counts-more _ _ _ _ _ c.add_complex.ensures.counts (counts-on _ _ _ (counts-on _ _ _ c.work-worked.ensures.counts c.settle_all-settled.ensures.counts) c.generate_order.ensures.counts);
-    }
+pub returns-clause-result_after : goal.returns-clause-result_after
+returns-clause-result_after c =
+    complex-law c.args.number c.args.c _ _ _ _ _ _ _ _ _ _ _ _ _ _ (c.complexes_used-i.ensures.0 ∙ sym (dense-complex c.args.numbers.now c.requires.dense))
+    (c.add_complex.ensures.numbers_after ∙ ap (λ (k : ℕ). put_complex k c.args.c (venue_of c.args.numbers.now)) (sym c.complexes_used-i.ensures.0)) c.work-worked.ensures.result_after c.settle_all-settled.ensures.result_after c.generate_order.ensures.result_after

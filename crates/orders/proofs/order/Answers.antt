@@ -1,14 +1,8 @@
 -- `orders::order` meets its contract.
-use mathlib.Core.Path.{◌∙◌}
 use Rattle.rules.specs.Standing.{settle}
 use Rattle.rules.specs.Order.{enter_regular, order}
 use Rattle.records.proofs.StageLaws.{follow}
 use Rattle.places.specs.Layout.{venue_of}
-use Rattle.orders.proofs.OrderLaws.{counts-more}
-use Rattle.orders.proofs.order.Reads as reads
-use Rattle.orders.proofs.order.Lts as lts
-use Rattle.settling.proofs.settle_all.Reads as settle-all-reads
-use Rattle.matching.proofs.enter_regular.Reads as enter-regular-reads
 use Rattle.orders.proofs.order.Goals as goal
 
 pub enter_regular-pos-requires : goal.enter_regular-pos-requires
@@ -17,12 +11,8 @@ enter_regular-pos-requires c = c.requires
 pub settle_all-requires : goal.settle_all-requires
 settle_all-requires c = c.enter_regular-pos.ensures.counts.right c.requires.dense.right
 
-pub returns : goal.returns
+pub returns-clause-result_after : goal.returns-clause-result_after
 unfolding order
-returns c = record {
-  result_after = follow _ (enter_regular c.args.o (venue_of c.args.numbers.now)) settle _ _ _ _ _ _
-      c.enter_regular-pos.ensures.result_after
-      c.settle_all.ensures.result_after;
-  counts = counts-more _ _ _ _ _ c.enter_regular-pos.ensures.counts
-      c.settle_all.ensures.counts;
-}
+returns-clause-result_after c = follow _ (enter_regular c.args.o (venue_of c.args.numbers.now)) settle _ _ _ _ _ _
+    c.enter_regular-pos.ensures.result_after
+    c.settle_all.ensures.result_after

@@ -7,38 +7,27 @@ use Rattle.records.specs.Seen.{seen}
 use Rattle.records.specs.Stage.{◌does◌}
 use Rattle.places.specs.Layout.{venue_of}
 use Rattle.orders.proofs.CancelLaws.{regular-found, regular-used, regular-not, withdraw-regular, withdraw-other}
-use Rattle.orders.proofs.withdraw.Reads as reads
-use Rattle.orders.proofs.withdraw.Lts as lts
-use Rattle.book.proofs.regular_place.Reads as regular-place-reads
-use Rattle.orders.proofs.withdraw_complex.Reads as withdraw-complex-reads
-use Rattle.trades.proofs.cancel_regular.Reads as cancel-regular-reads
 use Rattle.orders.proofs.withdraw.Goals as goal
 
 pub withdraw_complex-requires : goal.withdraw_complex-requires
 withdraw_complex-requires c = or_r (rests_regular (venue_of c.args.numbers.now) c.args.id)
-      (rests_complex (venue_of c.args.numbers.now) c.args.id)
-      (regular-not c.args.numbers.now c.args.id
-      (sym c.in_default.is ∙ c.regular_place-found.ensures)) c.requires.rests
+    (rests_complex (venue_of c.args.numbers.now) c.args.id)
+    (regular-not c.args.numbers.now c.args.id
+    (sym c.in_default.is ∙ c.regular_place-found.ensures)) c.requires.rests
 
-pub returns-in_default : goal.returns-in_default
-returns-in_default c = record {
-  result_after = c.withdraw_complex.ensures.result_after ∙ ap (λ (e : Effect). seen c.args.out.now c.args.at does e)
-      (withdraw-other _ _ (regular-not c.args.numbers.now c.args.id
-      (sym c.in_default.is
-      ∙ c.regular_place-found.ensures)));
-  counts = c.withdraw_complex.ensures.counts;
-}
+pub returns-in_default-clause-result_after : goal.returns-in_default-clause-result_after
+returns-in_default-clause-result_after c = c.withdraw_complex.ensures.result_after ∙ ap (λ (e : Effect). seen c.args.out.now c.args.at does e)
+    (withdraw-other _ _ (regular-not c.args.numbers.now c.args.id
+    (sym c.in_default.is
+    ∙ c.regular_place-found.ensures)))
 
 pub cancel_regular-requires : goal.cancel_regular-requires
 cancel_regular-requires c = regular-used c.args.numbers.now c.args.id _
-      (sym c.in-At.is ∙ c.regular_place-found.ensures)
+    (sym c.in-Some.is ∙ c.regular_place-found.ensures)
 
-pub returns : goal.returns
-returns c = record {
-  result_after = c.cancel_regular.ensures.result_after ∙ ap (λ (e : Effect). seen c.args.out.now c.args.at does e)
-      (withdraw-regular _ _ _
-      (regular-found c.args.numbers.now c.args.id _
-      (sym c.in-At.is
-      ∙ c.regular_place-found.ensures)));
-  counts = c.cancel_regular.ensures.counts;
-}
+pub returns-clause-result_after : goal.returns-clause-result_after
+returns-clause-result_after c = c.cancel_regular.ensures.result_after ∙ ap (λ (e : Effect). seen c.args.out.now c.args.at does e)
+    (withdraw-regular _ _ _
+    (regular-found c.args.numbers.now c.args.id _
+    (sym c.in-Some.is
+    ∙ c.regular_place-found.ensures)))

@@ -1,6 +1,6 @@
 -- `prices::own_size` meets its contract.
-use mathlib.Core.Path.{sym, ◌∙◌}
-use native.Mathlib.Omega.{arith}
+use mathlib.Core.Path.{sym, ap, ◌∙◌}
+use Prim.Native.Nat.{ℕ, ◌+◌}
 use Rattle.rules.specs.Words.{place_of}
 use Rattle.levels.proofs.LevelsKept.{level-most}
 use Rattle.places.proofs.Parts.{legging-read}
@@ -26,13 +26,13 @@ overflow_add-result c =
 pub returns-then-l-level : goal.returns-then-l-level
 returns-then-l-level c =
     let p = c.requires in
-    size_same _ _ _ _ p.level _ (legging-read _ _ _ _ c.legging_at-l.result p.series p.side c.place_of.ensures c.legging_at-l.ensures)
+    ap (λ (k : ℕ). c.args.level.size + k) c.from-legging.ensures ∙ size_same _ _ _ _ p.level _ (legging-read _ _ _ _ c.legging_at-l.result p.series p.side c.place_of.ensures c.legging_at-l.ensures)
     c.if-l-eq0.false c.if-l-level.true
 
 pub returns-then-is_better : goal.returns-then-is_better
 returns-then-is_better c =
     let p = c.requires in
-    size-better _ _ _ _ p.level _ (legging-read _ _ _ _ c.legging_at-l.result p.series p.side c.place_of.ensures c.legging_at-l.ensures)
+    c.from-legging.ensures ∙ size-better _ _ _ _ p.level _ (legging-read _ _ _ _ c.legging_at-l.result p.series p.side c.place_of.ensures c.legging_at-l.ensures)
     c.if-l-eq0.false (sym c.is_better.ensures ∙ c.if-is_better.true)
 
 pub returns : goal.returns

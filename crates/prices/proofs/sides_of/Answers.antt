@@ -18,7 +18,14 @@ bounds-g-k c = search rules
 
 pub returns : goal.returns
 returns c = rw (
-  ← c.opposite_of-d1.ensures,
-  ← c.opposite_of-d2.ensures,
-  ← c.opposite_of-k.ensures,
+  c.from-s1.ensures,
+  c.from-s2.ensures,
+  c.from-i.ensures,
+  c.from-d1.ensures,
+  c.from-d2.ensures,
+  c.from-j.ensures,
+  c.from-k.ensures,
+  c.opposite_of.ensures,
+  c.opposite_of-2.ensures,
+  c.opposite_of-3.ensures,
 ) refl

@@ -1,10 +1,8 @@
 -- `refusals::complex_rests` meets its contract.
-use Rattle.refusals.proofs.RefusalFound.{complex-told}
-use mathlib.Core.Path.{sym, ◌∙◌}
+use mathlib.Core.Path.{ap, ◌∙◌}
+use Rattle.std.specs.Prelude.{is_some}
+use Rattle.book.proofs.FirstPlace.{complex-found}
 use Rattle.refusals.proofs.complex_rests.Goals as goal
 
-pub returns-in-At : goal.returns-in-At
-returns-in-At c = complex-told _ _ _ (sym c.in-At.is ∙ c.complex_place-found.ensures)
-
-pub returns-in-Nothing : goal.returns-in-Nothing
-returns-in-Nothing c = complex-told _ _ _ (sym c.in-Nothing.is ∙ c.complex_place-found.ensures)
+pub returns : goal.returns
+returns c = c.is_some.ensures ∙ ap is_some c.complex_place.ensures ∙ complex-found _ _

@@ -1,15 +1,19 @@
 -- `refusals::rests` meets its contract.
-use Rattle.refusals.proofs.RefusalFound.{regular-told}
 use mathlib.Core.Path.{sym, ap, ◌∙◌}
 use mathlib.Core.Bool.{Bool, ◌||◌}
+use Rattle.std.specs.Prelude.{is_some}
 use Rattle.rules.specs.Complex.{rests_complex}
 use Rattle.places.specs.Layout.{venue_of}
+use Rattle.book.proofs.FirstPlace.{regular-found}
 use Rattle.refusals.proofs.rests.Goals as goal
 
-pub returns-in-At : goal.returns-in-At
-returns-in-At c = ap (λ (t : Bool). t || rests_complex (venue_of c.args.numbers.now) c.args.id)
-    (regular-told _ _ _ (sym c.in-At.is ∙ c.regular_place-found.ensures))
+pub returns-then-is_some : goal.returns-then-is_some
+returns-then-is_some c =
+    ap (λ (t : Bool). t || rests_complex (venue_of c.args.numbers.now) c.args.id)
+    (sym c.if-is_some.true ∙ c.is_some.ensures ∙ ap is_some c.regular_place.ensures ∙ regular-found _ _)
 
-pub returns-in-Nothing : goal.returns-in-Nothing
-returns-in-Nothing c = c.complex_rests.ensures ∙ ap (λ (t : Bool). t || rests_complex (venue_of c.args.numbers.now) c.args.id)
-    (regular-told _ _ _ (sym c.in-Nothing.is ∙ c.regular_place-found.ensures))
+pub returns : goal.returns
+returns c =
+    c.complex_rests.ensures
+    ∙ ap (λ (t : Bool). t || rests_complex (venue_of c.args.numbers.now) c.args.id)
+    (sym c.if-is_some.false ∙ c.is_some.ensures ∙ ap is_some c.regular_place.ensures ∙ regular-found _ _)

@@ -4,10 +4,6 @@ use native.Mathlib.Omega.{arith}
 use Rattle.trades.proofs.Trades.{taking-start, taking-end, taking-none, taking-used, taking-less, taking-turn, taking-room}
 use Rattle.trades.proofs.trade_at_price.Goals as goal
 
--- each clause by its name
-each : {A B : Type 0} → A × B → record { result_after : A; counts : B }
-each h = record { result_after = h.0; counts = h.1 }
-
 pub loop-left-init : goal.loop-left-init
 loop-left-init c = taking-start _ _ _ _ _ _ _ _ c.told-numbers
 
@@ -18,30 +14,32 @@ first_for-found-requires c =
 pub shape_of-out-in_default : goal.shape_of-out-in_default
 shape_of-out-in_default c = taking-room c.loop-left.invariant
 
-pub returns-in_default : goal.returns-in_default
-returns-in_default c =
-    each (taking-none c.loop-left.invariant _ c.loop-left-test.true c.opposite_of-other.ensures (sym c.in_default.is ∙ c.first_for-found.ensures))
+pub returns-in_default-clause-result_after : goal.returns-in_default-clause-result_after
+returns-in_default-clause-result_after c =
+    (taking-none c.loop-left.invariant _ c.loop-left-test.true c.opposite_of-other.ensures (sym c.in_default.is ∙ c.first_for-found.ensures)).0
 
 pub trade_with-pos-requires : goal.trade_with-pos-requires
 trade_with-pos-requires c =
-    taking-used c.loop-left.invariant _ _ _ _ c.loop-left-test.true c.opposite_of-other.ensures (sym c.in-At.is ∙ c.first_for-found.ensures)
-          _ c.shown_size.ensures c.at_most-k.ensures
+    taking-used c.loop-left.invariant _ _ _ _ c.loop-left-test.true c.opposite_of-other.ensures (sym c.in-Some.is ∙ c.first_for-found.ensures)
+    _ c.shown_size.ensures c.at_most-k.ensures
 
 pub overflow_sub-left : goal.overflow_sub-left
 overflow_sub-left c = omega (arith, c.at_most-k.ensures)
 
 pub loop-left-smaller : goal.loop-left-smaller
 loop-left-smaller c =
-    taking-less c.loop-left.invariant _ _ _ _ c.loop-left-test.true c.opposite_of-other.ensures (sym c.in-At.is ∙ c.first_for-found.ensures)
-    _ c.shown_size.ensures c.at_most-k.ensures
+    rw c.from-left.ensures
+    (taking-less c.loop-left.invariant _ _ _ _ c.loop-left-test.true c.opposite_of-other.ensures (sym c.in-Some.is ∙ c.first_for-found.ensures)
+    _ c.shown_size.ensures c.at_most-k.ensures)
 
 pub loop-left-preserved : goal.loop-left-preserved
 loop-left-preserved c =
-    taking-turn c.loop-left.invariant _ _ _ _ c.loop-left-test.true c.opposite_of-other.ensures (sym c.in-At.is ∙ c.first_for-found.ensures)
-    _ c.shown_size.ensures c.at_most-k.ensures _ _ _ (omega arith) (c.trade_with-pos.ensures.result_after, c.trade_with-pos.ensures.counts)
+    rw c.from-left.ensures
+    (taking-turn c.loop-left.invariant _ _ _ _ c.loop-left-test.true c.opposite_of-other.ensures (sym c.in-Some.is ∙ c.first_for-found.ensures)
+    _ c.shown_size.ensures c.at_most-k.ensures _ _ _ (omega arith) (c.trade_with-pos.ensures.result_after, c.trade_with-pos.ensures.counts))
 
 pub shape_of-out : goal.shape_of-out
 shape_of-out c = taking-room c.loop-left.invariant
 
-pub returns : goal.returns
-returns c = each (taking-end c.loop-left.invariant c.loop-left-test.false)
+pub returns-clause-result_after : goal.returns-clause-result_after
+returns-clause-result_after c = (taking-end c.loop-left.invariant c.loop-left-test.false).0

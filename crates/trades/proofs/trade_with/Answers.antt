@@ -9,11 +9,8 @@ use Rattle.trades.proofs.trade_with.Goals as goal
 pub regular_at-m-requires : goal.regular_at-m-requires
 regular_at-m-requires c = let w = regulars-few c.args.numbers.now in omega arith
 
-pub returns : goal.returns
-returns c =
-    record {
-      result_after = trade-law _ _ _ _ (venue_of c.args.numbers.now) _ _ _ _ _ _
-          (c.regular_at-m.ensures ∙ sym (regular-at c.args.numbers.now c.args.j c.requires)) c.fill_order.ensures.numbers_after
-          c.emit_trade.ensures;
-      counts = c.fill_order.ensures.counts;
-    }
+pub returns-clause-result_after : goal.returns-clause-result_after
+returns-clause-result_after c =
+    trade-law _ _ _ _ (venue_of c.args.numbers.now) _ _ _ _ _ _
+    (c.regular_at-m.ensures ∙ sym (regular-at c.args.numbers.now c.args.j c.requires)) c.fill_order.ensures.numbers_after
+    c.emit_trade.ensures
