@@ -1,6 +1,5 @@
 -- What the functions require, each part by its name.
-use Rattle.std.specs.Prelude.{◌≡◌, List, ℕ, ◌<◌, ◌≤◌, ◌+◌, length}
-use Rattle.places.specs.Layout.{size}
+use Rattle.std.specs.Prelude.{List, ℕ, ◌<◌, ◌≤◌, ◌+◌}
 use Rattle.set_parts.specs.declared.Orders.{Orders}
 
 -- of n regular and m complex places those of t are done, and one is left

@@ -95,7 +95,7 @@ fn put_two_leg(out: &mut [u8], at: usize, length: u8, kind: u8, c: Complex) -> u
     let head = [
         length, 0, kind, 0, i[0], i[1], i[2], i[3], c.series1, c.side1, c.series2, c.side2, c.class,
     ];
-    let words = [records::bits(c.limit as i64), c.quantity];
+    let words = [records::bits(i64::from(c.limit)), c.quantity];
     records::put_words(out, at, &head, &words)
 }
 
@@ -162,11 +162,9 @@ pub fn put_series(numbers: &Numbers, out: &mut [u8], at: usize) -> usize
     ensures { set_memory out.new result ≡ set_memory out.old at adds joined (series_records 0 (venue_of numbers.now).series) }
 {
     let mut pos = at;
-    let mut s: usize = 0;
-    while s < 8 {
+    for s in 0..8 {
         let x = places::listed_at(numbers, s);
         pos = put_listed(out, pos, s as u8, x);
-        s += 1;
     }
     pos
 }
@@ -176,11 +174,9 @@ pub fn put_editions(numbers: &Numbers, out: &mut [u8], at: usize) -> usize
     ensures { set_memory out.new result ≡ set_memory out.old at adds joined (map edition_record (keep holds_edition (venue_of numbers.now).editions)) }
 {
     let mut pos = at;
-    let mut i: usize = 0;
-    while i < 32 {
+    for i in 0..32 {
         let e = places::edition_at(numbers, i);
         pos = put_edition(out, pos, e);
-        i += 1;
     }
     pos
 }
@@ -259,10 +255,8 @@ pub fn put_leggings(numbers: &Numbers, out: &mut [u8], at: usize) -> usize
     ensures { set_memory out.new result ≡ set_memory out.old at adds joined (legging_records 0 (venue_of numbers.now).legging) }
 {
     let mut pos = at;
-    let mut s: usize = 0;
-    while s < 8 {
+    for s in 0..8 {
         pos = put_sides(numbers, out, pos, s);
-        s += 1;
     }
     pos
 }
@@ -273,11 +267,9 @@ fn put_generations(numbers: &Numbers, out: &mut [u8], at: usize, s: usize) -> us
     ensures { set_memory out.new result ≡ set_memory out.old at adds joined (map (generation_record s) (keep held (generations_of (venue_of numbers.now) s))) }
 {
     let mut pos = at;
-    let mut k: usize = 0;
-    while k < 20 {
+    for k in 0..20 {
         let number = places::generation_at(numbers, s, k);
         pos = put_generation(out, pos, s as u8, number);
-        k += 1;
     }
     pos
 }
@@ -287,10 +279,8 @@ pub fn put_all_generations(numbers: &Numbers, out: &mut [u8], at: usize) -> usiz
     ensures { set_memory out.new result ≡ set_memory out.old at adds joined (generation_records 0 (venue_of numbers.now).generations) }
 {
     let mut pos = at;
-    let mut s: usize = 0;
-    while s < 8 {
+    for s in 0..8 {
         pos = put_generations(numbers, out, pos, s);
-        s += 1;
     }
     pos
 }
