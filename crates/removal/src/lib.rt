@@ -39,15 +39,12 @@ pub fn remove_of(
     ensures counts { SameCounts numbers.old numbers.new }
 {
     let mut pos = at;
-    let mut n: usize = 0;
-    while n < 16 {
-        let place = n;
-        n += 1;
-        let l = places::legging_at(numbers, place);
+    for n in 0..16 {
+        let l = places::legging_at(numbers, n);
         if l.parent != parent {
             continue;
         }
-        pos = remove_place(numbers, place, cause, out, pos);
+        pos = remove_place(numbers, n, cause, out, pos);
     }
     pos
 }
@@ -89,34 +86,18 @@ pub fn remove_at(
 pub fn verdict_by(x: u8) -> Option<Cause>
     ensures { result ≡ verdict_by x }
 {
-    if x == 1 {
-        return Some(Cause::Worse);
+    match x {
+        1 => Some(Cause::Worse),
+        2 => Some(Cause::Unpaired),
+        3 => Some(Cause::Executed),
+        4 => Some(Cause::Withdrawn),
+        5 => Some(Cause::OutOfBand),
+        6 => Some(Cause::NotOpen),
+        7 => Some(Cause::Replaced),
+        8 => Some(Cause::Touched),
+        10 => Some(Cause::NoUnit),
+        _ => None,
     }
-    if x == 2 {
-        return Some(Cause::Unpaired);
-    }
-    if x == 3 {
-        return Some(Cause::Executed);
-    }
-    if x == 4 {
-        return Some(Cause::Withdrawn);
-    }
-    if x == 5 {
-        return Some(Cause::OutOfBand);
-    }
-    if x == 6 {
-        return Some(Cause::NotOpen);
-    }
-    if x == 7 {
-        return Some(Cause::Replaced);
-    }
-    if x == 8 {
-        return Some(Cause::Touched);
-    }
-    if x == 10 {
-        return Some(Cause::NoUnit);
-    }
-    None
 }
 
 // The legging orders at the places that have a cause's number in `causes` go, each for that cause.
@@ -127,13 +108,13 @@ pub fn remove_by_causes(numbers: &mut Numbers, causes: u64, out: &mut [u8], at: 
     let mut pos = at;
     let mut n: usize = 0;
     let mut rest = causes;
+    // No `for` over the places: the loop ends with the last cause.
     while 0 < rest {
         let place = n;
         n += 1;
         let x = (rest % 16) as u8;
-        rest = rest / 16;
-        let found = verdict_by(x);
-        let Some(cause) = found else {
+        rest /= 16;
+        let Some(cause) = verdict_by(x) else {
             continue;
         };
         pos = remove_place(numbers, place, cause, out, pos);

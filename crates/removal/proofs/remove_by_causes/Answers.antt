@@ -17,7 +17,7 @@ loop-rest-preserved-in_default c =
     let few : c.loop-rest.n < 16 = let i = c.loop-rest.invariant in
     left-few i.1 i.0.few c.loop-rest-test.true in
     let i = c.loop-rest.invariant in (
-      removing-past _ i.0 few (left_here i.1 _ ∙ sym c.verdict_by-found.ensures ∙ c.in_default.is),
+      removing-past _ i.0 few (left_here i.1 _ ∙ sym c.verdict_by.ensures ∙ c.in_default.is),
       left-on i.1 few,
     )
 
@@ -32,7 +32,7 @@ loop-rest-preserved c =
     let few : c.loop-rest.n < 16 = let i = c.loop-rest.invariant in
     left-few i.1 i.0.few c.loop-rest-test.true in
     let i = c.loop-rest.invariant in (
-      removing-turn _ i.0 _ _ _ _ few (left_here i.1 _ ∙ sym c.verdict_by-found.ensures ∙ c.in-Some.is) (omega arith) (c.remove_place-pos.ensures.result_after, c.remove_place-pos.ensures.counts),
+      removing-turn _ i.0 _ _ _ _ few (left_here i.1 _ ∙ sym c.verdict_by.ensures ∙ c.in-Some.is) (omega arith) (c.remove_place-pos.ensures.result_after, c.remove_place-pos.ensures.counts),
       left-on i.1 few,
     )
 

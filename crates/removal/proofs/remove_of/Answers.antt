@@ -1,6 +1,5 @@
 -- `removal::remove_of` meets its contract.
 use native.Mathlib.Omega.{arith}
-use mathlib.Core.Path.{sym, ◌∙◌}
 use Rattle.rules.specs.Removal.{remove_of}
 use Rattle.removal.proofs.RemovalLaws.{removing-start, removing-turn, removing-past, removing-end, removing-room, by-parent, not-parent}
 use Rattle.removal.proofs.remove_of.Goals as goal
