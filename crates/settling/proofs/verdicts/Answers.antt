@@ -1,6 +1,7 @@
 -- `settling::verdicts` meets its contract.
 use Rattle.settling.proofs.CausesFound.{number_small, causes-none, causes-room, causes-free, causes-on, causes-all}
 use native.Mathlib.Omega.{arith}
+use mathlib.Core.Path.{◌∙◌}
 use Rattle.settling.proofs.verdicts.Goals as goal
 
 pub loop-n-init : goal.loop-n-init
@@ -19,7 +20,7 @@ overflow_add-causes c =
 
 pub loop-n-preserved : goal.loop-n-preserved
 loop-n-preserved c =
-    causes-on _ _ _ c.loop-n.invariant c.loop-n-test.true _ c.judge.result c.verdict_number.ensures c.judge.ensures
+    causes-on _ _ _ c.loop-n.invariant c.loop-n-test.true _ c.judge.result (c.from-causes.ensures ∙ c.verdict_number.ensures) c.judge.ensures
 
 pub returns : goal.returns
 returns c = causes-all _ _ _ c.loop-n.invariant (omega arith)
