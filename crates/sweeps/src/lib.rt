@@ -27,10 +27,8 @@ fn work_places(
     ensures counts { SameCounts numbers.old numbers.new }
 {
     let mut pos = at;
-    let mut k: usize = 0;
-    while k < count {
-        pos = work::work(numbers, first + k, out, pos);
-        k += 1;
+    for k in first..first + count {
+        pos = work::work(numbers, k, out, pos);
     }
     pos
 }
@@ -49,10 +47,8 @@ fn generate_places(
     ensures counts { SameCounts numbers.old numbers.new }
 {
     let mut pos = at;
-    let mut k: usize = 0;
-    while k < count {
-        pos = generation::generate_order(numbers, number, first + k, out, pos);
-        k += 1;
+    for k in first..first + count {
+        pos = generation::generate_order(numbers, number, k, out, pos);
     }
     pos
 }
@@ -93,13 +89,11 @@ fn round_start(numbers: &Numbers) -> usize
 {
     let used = places::complexes_used(numbers);
     let reached = places::reached_id(numbers);
-    let mut k: usize = 0;
-    while k < used {
+    for k in 0..used {
         let c = places::complex_at(numbers, k);
         if reached < c.id {
             return k;
         }
-        k += 1;
     }
     used
 }
@@ -112,7 +106,7 @@ fn round_of(numbers: &Numbers, n: u8) -> Round
 {
     let used = places::complexes_used(numbers);
     let first = round_start(numbers);
-    let most = n as usize;
+    let most = usize::from(n);
     let above = used - first;
     if most <= above {
         return Round {

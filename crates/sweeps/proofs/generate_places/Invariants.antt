@@ -8,7 +8,4 @@ use Rattle.sweeps.proofs.generate_places.Given as goal
 
 abbrev pub invariant-loop-k : goal.invariant-loop-k
 invariant-loop-k l =
-    Doing (each_of (generate l.number) (places_from l.first l.count) (venue_of l.initial.numbers)) (each_of (generate l.number) (places_from (l.first + l.k) (l.count - l.k))) l.initial.numbers l.initial.out l.at l.numbers l.out l.pos
-
-abbrev pub decreases-loop-k : goal.decreases-loop-k
-decreases-loop-k l = l.count - l.k
+    Doing (each_of (generate l.number) (places_from l.first l.count) (venue_of l.initial.numbers)) (each_of (generate l.number) (places_from l.k (l.first + l.count - l.k))) l.initial.numbers l.initial.out l.at l.numbers l.out l.pos

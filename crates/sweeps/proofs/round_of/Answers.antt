@@ -11,7 +11,7 @@ use Rattle.sweeps.proofs.round_of.Goals as goal
 pub returns-then-most-above : goal.returns-then-most-above
 unfolding round_places
 returns-then-most-above c =
-    let t = c.if-most-above.true in record { result_value = round-within c.args.n _ _ _ (omega (arith, t, c.complexes_used-used.ensures.0)) ∙ ap (take c.args.n) c.round_start-first.ensures.result_value; within = (omega (arith, t, c.complexes_used-used.ensures.0, c.round_start-first.ensures.within), omega arith) }
+    let t = c.if-most-above.true in record { result_value = rw c.from-most.ensures (round-within c.args.n _ _ _ (omega (arith, t, c.complexes_used-used.ensures.0)) ∙ ap (take c.args.n) c.round_start-first.ensures.result_value); within = (omega (arith, t, c.complexes_used-used.ensures.0, c.round_start-first.ensures.within), omega arith) }
 
 pub returns-then-most-above-2 : goal.returns-then-most-above-2
 unfolding round_places

@@ -1,5 +1,4 @@
 -- `sweeps::work_places` meets its contract.
-use mathlib.Core.Path.{sym, ◌∙◌}
 use native.Mathlib.Omega.{arith}
 use Rattle.rules.specs.Complex.{work}
 use Rattle.places.proofs.Parts.{complexes-few}
@@ -10,19 +9,13 @@ use Rattle.sweeps.proofs.work_places.Goals as goal
 pub loop-k-init : goal.loop-k-init
 loop-k-init c = doing-start _ _ _ _ _ c.told-numbers (each_of-same work _ _ _ _ _ (omega arith) (omega arith))
 
-pub overflow_add-first : goal.overflow_add-first
-overflow_add-first c = omega (arith, c.loop-k-test.true, c.requires.in_use, complexes-few c.args.numbers.now)
+pub overflow_add-k-end : goal.overflow_add-k-end
+overflow_add-k-end c = omega (arith, c.requires.in_use, complexes-few c.args.numbers.now)
 
 pub work-pos-requires : goal.work-pos-requires
 work-pos-requires c =
     let l = c.loop-k.invariant in
     record { right = l.counts.right c.requires.right; in_use = omega (arith, c.loop-k-test.true, c.requires.in_use, l.counts.complexes) }
-
-pub overflow_add-k : goal.overflow_add-k
-overflow_add-k c = omega (arith, c.loop-k-test.true, c.requires.in_use, complexes-few c.args.numbers.now)
-
-pub loop-k-smaller : goal.loop-k-smaller
-loop-k-smaller c = omega (arith, c.loop-k-test.true)
 
 pub loop-k-preserved : goal.loop-k-preserved
 loop-k-preserved c =
