@@ -11,7 +11,6 @@ use Rattle.places.proofs.Beside.{counts-on}
 use mathlib.Core.Path.{refl, ap, ◌∙◌}
 use Prim.Native.Nat.{◌<◌}
 use native.Mathlib.Omega.{arith}
-use borrow.Author.Rules.{rules}
 use Rattle.generation.proofs.generate_order.Goals as goal
 
 pub returns-then-complexes_used-i : goal.returns-then-complexes_used-i

@@ -4,7 +4,6 @@ use Rattle.rules.specs.Generation.{placed, others_stand}
 use Rattle.rules.specs.declared.Venue.{Venue}
 use Rattle.places.proofs.Beside.{counts-on}
 use mathlib.Core.Path.{ap, ◌∙◌}
-use borrow.Author.Rules.{rules}
 use Rattle.generation.proofs.others_stand_with.Goals as goal
 
 pub others_stand-stand-requires : goal.others_stand-stand-requires
