@@ -12,10 +12,11 @@ ghost use Rattle.places.specs.Requirements.{PlacesReady};
 use places::Numbers;
 use rules::Cause;
 
-// What stands at place n goes; a free place stays as it is.
-fn remove_place(numbers: &mut Numbers, n: usize, cause: Cause, out: &mut [u8], at: usize) -> usize
+// The legging order at place n goes; a free place stays as it is.
+pub fn remove_one(numbers: &mut Numbers, n: usize, cause: Cause, out: &mut [u8], at: usize) -> usize
     requires { n < 16 }
-    ensures result_after { stage (venue_of numbers.new) out.new result ≡ seen out.old at does remove_place n (Some cause) (venue_of numbers.old) }
+    ensures result_after { stage (venue_of numbers.new) out.new result ≡ seen out.old at does remove (λ m _. fail_if (eqb m n) cause) (venue_of numbers.old) }
+    ensures place_after { stage (venue_of numbers.new) out.new result ≡ seen out.old at does remove_place n (Some cause) (venue_of numbers.old) }
     ensures counts { SameCounts numbers.old numbers.new }
 {
     let l = places::legging_at(numbers, n);
@@ -44,18 +45,9 @@ pub fn remove_of(
         if l.parent != parent {
             continue;
         }
-        pos = remove_place(numbers, n, cause, out, pos);
+        pos = remove_one(numbers, n, cause, out, pos);
     }
     pos
-}
-
-// The legging order at one place goes.
-pub fn remove_one(numbers: &mut Numbers, n: usize, cause: Cause, out: &mut [u8], at: usize) -> usize
-    requires { n < 16 }
-    ensures result_after { stage (venue_of numbers.new) out.new result ≡ seen out.old at does remove (λ m _. fail_if (eqb m n) cause) (venue_of numbers.old) }
-    ensures counts { SameCounts numbers.old numbers.new }
-{
-    remove_place(numbers, n, cause, out, at)
 }
 
 // The legging orders at two places go, the one at the lesser place first.
@@ -72,14 +64,14 @@ pub fn remove_at(
     ensures counts { SameCounts numbers.old numbers.new }
 {
     if n1 == n2 {
-        return remove_place(numbers, n1, cause, out, at);
+        return remove_one(numbers, n1, cause, out, at);
     }
     if n2 < n1 {
-        let pos = remove_place(numbers, n2, cause, out, at);
-        return remove_place(numbers, n1, cause, out, pos);
+        let pos = remove_one(numbers, n2, cause, out, at);
+        return remove_one(numbers, n1, cause, out, pos);
     }
-    let pos = remove_place(numbers, n1, cause, out, at);
-    remove_place(numbers, n2, cause, out, pos)
+    let pos = remove_one(numbers, n1, cause, out, at);
+    remove_one(numbers, n2, cause, out, pos)
 }
 
 // The cause of a number; None where it is no cause's.
@@ -117,7 +109,7 @@ pub fn remove_by_causes(numbers: &mut Numbers, causes: u64, out: &mut [u8], at: 
         let Some(cause) = verdict_by(x) else {
             continue;
         };
-        pos = remove_place(numbers, place, cause, out, pos);
+        pos = remove_one(numbers, place, cause, out, pos);
     }
     pos
 }

@@ -14,7 +14,7 @@ loop-n-preserved-then-l-parent c =
 pub loop-n-preserved : goal.loop-n-preserved
 loop-n-preserved c =
     removing-turn _ c.loop-n.invariant _ _ _ _ c.loop-n-test.true (by-parent _ _ c.legging_at-l.ensures c.if-l-parent.false) (omega arith)
-    (c.remove_place-pos.ensures.result_after, c.remove_place-pos.ensures.counts)
+    (c.remove_one-pos.ensures.place_after, c.remove_one-pos.ensures.counts)
 
 pub shape_of-out : goal.shape_of-out
 shape_of-out c = removing-room _ c.loop-n.invariant
