@@ -35,10 +35,7 @@ fn sign_times(d: u8, z: i64) -> i64
 fn as_price(z: i64) -> u64
     ensures { result ≡ as_price z }
 {
-    if z < 0 {
-        return 0;
-    }
-    z as u64
+    u64::try_from(z).unwrap_or(0)
 }
 
 // A price whose displayed price is from the increment to 100,000; else 0, which is no price in the rules and in every order.
