@@ -11,19 +11,10 @@ ghost use Rattle.rules.specs.Places.{holds_edition};
 ghost use Rattle.places.specs.Layout.{size, venue_of, regulars_used, complexes_used};
 ghost use Rattle.sets.specs.Set.{first_record, series_records, edition_record, regular_record, complex_record, legging_record, legging_records, generation_record, generation_records, reached_records, joined};
 ghost use Rattle.set_parts.specs.SetMemory.{set_memory, ◌adds◌};
-ghost use Rattle.set_parts.specs.Parts.{record_if, orders_from, regular_next, OneMore, side_record};
-ghost use Rattle.set_parts.specs.Requirements.{OrdersLeft};
+ghost use Rattle.set_parts.specs.Parts.{record_if, orders_from, regular_next, side_record};
 
 use places::Numbers;
 use rules::{Complex, Edition, Legging, Listed, Regular};
-
-// Where the orders of both books stand: the position, and the next place of either.
-#[derive(Clone, Copy)]
-pub struct Orders {
-    at: usize,
-    regular: usize,
-    complex: usize,
-}
 
 // Records -------------------------------------------------------------------------------------
 
@@ -196,47 +187,27 @@ fn regular_next(numbers: &Numbers, n: usize, m: usize, i: usize, j: usize) -> bo
     places::regular_id(numbers, i) < c.id
 }
 
-// One order more, of either book.
-fn put_next(numbers: &Numbers, n: usize, m: usize, t: Orders, out: &mut [u8]) -> Orders
-    requires { OrdersLeft numbers.now n m t }
-    ensures { OneMore numbers.now n m t out.old result out.new }
-{
-    let at = t.at;
-    let i = t.regular;
-    let j = t.complex;
-    if regular_next(numbers, n, m, i, j) {
-        let o = places::regular_at(numbers, i);
-        let pos = put_regular(out, at, o);
-        return Orders {
-            at: pos,
-            regular: i + 1,
-            complex: j,
-        };
-    }
-    let c = places::complex_at(numbers, j);
-    let pos = put_complex(out, at, c);
-    Orders {
-        at: pos,
-        regular: i,
-        complex: j + 1,
-    }
-}
-
 // The resting orders of both books by rising id.
 pub fn put_orders(numbers: &Numbers, out: &mut [u8], at: usize) -> usize
     ensures { set_memory out.new result ≡ set_memory out.old at adds joined (orders_from numbers.now (regulars_used numbers.now) (complexes_used numbers.now) 0 0) }
 {
     let n = places::regulars_used(numbers);
     let m = places::complexes_used(numbers);
-    let mut t = Orders {
-        at,
-        regular: 0,
-        complex: 0,
-    };
-    while t.regular + t.complex < n + m {
-        t = put_next(numbers, n, m, t, out);
+    let mut pos = at;
+    let mut i: usize = 0;
+    let mut j: usize = 0;
+    for _turn in 0..n + m {
+        if regular_next(numbers, n, m, i, j) {
+            let o = places::regular_at(numbers, i);
+            pos = put_regular(out, pos, o);
+            i += 1;
+            continue;
+        }
+        let c = places::complex_at(numbers, j);
+        pos = put_complex(out, pos, c);
+        j += 1;
     }
-    t.at
+    pos
 }
 
 // The legging orders of a series, its first side's first.
