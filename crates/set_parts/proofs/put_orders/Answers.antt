@@ -1,15 +1,12 @@
 -- `set_parts::put_orders` meets its contract.
-use mathlib.Core.Path.{refl, sym, ap, ap₂, ◌∙◌}
+use mathlib.Core.Path.{sym, ap, ap₂, ◌∙◌}
 use Prim.Native.Nat.{ℕ}
 use native.Mathlib.Omega.{arith}
 use Rattle.sets.specs.Set.{joined, regular_record, complex_record}
 use Rattle.set_parts.specs.Parts.{orders_from}
-use Rattle.set_parts.proofs.SetMemoryLaws.{adds_same, left-next, left-none, left-room}
+use Rattle.set_parts.proofs.SetMemoryLaws.{adds_same, left-next, left-none}
 use Rattle.set_parts.proofs.PartsLaws.{orders-none, regular-there, complex-there, regular-after, complex-after}
 use Rattle.set_parts.proofs.put_orders.Goals as goal
-
-pub loop-turn-init : goal.loop-turn-init
-loop-turn-init c = (refl, omega arith, omega arith, omega arith)
 
 pub regular_at-o-requires : goal.regular_at-o-requires
 regular_at-o-requires c = omega (arith, regular-there _ _ _ _ _ (sym c.regular_next.ensures ∙ c.if-regular_next.true))
@@ -42,9 +39,6 @@ loop-turn-preserved c =
       omega (arith, k),
       omega arith,
     )
-
-pub shape_of-out : goal.shape_of-out
-shape_of-out c = left-room _ _ _ _ _ _ c.loop-turn.invariant.0
 
 pub returns : goal.returns
 returns c =

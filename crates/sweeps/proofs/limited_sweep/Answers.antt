@@ -1,5 +1,4 @@
 -- `sweeps::limited_sweep` meets its contract.
-use mathlib.Core.Path.{◌∙◌}
 use native.Mathlib.Omega.{arith}
 use Rattle.places.proofs.Parts.{complexes-few}
 use Rattle.sweeps.specs.Round.{round_places}
@@ -12,27 +11,6 @@ overflow_add-looked c = omega (arith, c.round_of-round.ensures.within.0, c.round
 
 pub overflow_cast-looked : goal.overflow_cast-looked
 overflow_cast-looked c = omega (arith, c.round_of-round.ensures.within.0, c.round_of-round.ensures.within.1, complexes-few c.args.numbers.now)
-
-pub at_round-worked-requires : goal.at_round-worked-requires
-at_round-worked-requires c =
-    record {
-      right = c.put_reached.ensures.counts.right c.requires.dense.right;
-      above = omega (arith, c.round_of-round.ensures.within.0, c.put_reached.ensures.counts.complexes);
-      others = omega (arith, c.round_of-round.ensures.within.1, c.put_reached.ensures.counts.complexes);
-    }
-
-pub settle_all-settled-requires : goal.settle_all-settled-requires
-settle_all-settled-requires c =
-    c.at_round-worked.ensures.counts.right (c.put_reached.ensures.counts.right c.requires.dense.right)
-
-pub at_round-end-requires : goal.at_round-end-requires
-at_round-end-requires c =
-    let n = c.settle_all-settled.ensures.counts.complexes ∙ c.at_round-worked.ensures.counts.complexes ∙ c.put_reached.ensures.counts.complexes in
-    record {
-      right = c.settle_all-settled.ensures.counts.right (c.at_round-worked.ensures.counts.right (c.put_reached.ensures.counts.right c.requires.dense.right));
-      above = omega (arith, c.round_of-round.ensures.within.0, n);
-      others = omega (arith, c.round_of-round.ensures.within.1, n);
-    }
 
 pub returns : goal.returns
 returns c =
