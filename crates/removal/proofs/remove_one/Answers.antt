@@ -17,8 +17,8 @@ returns-then-l-eq0 c =
     let a = c.args in
     let same : SameCounts a.numbers.now a.numbers.now = record { regulars = refl; complexes = refl; right = λ h. h } in
     let p = does-nothing (venue_of a.numbers.now) a.out.now a.at
-        ∙ ap (λ (e : Effect). seen a.out.now a.at does e)
-        (remove-place-free a.n (venue_of a.numbers.now) _ (legging-at a.numbers.now a.n c.requires ∙ sym c.legging_at-l.ensures) a.cause c.if-l-eq0.true) in
+    ∙ ap (λ (e : Effect). seen a.out.now a.at does e)
+    (remove-place-free a.n (venue_of a.numbers.now) _ (legging-at a.numbers.now a.n c.requires ∙ sym c.legging_at-l.ensures) a.cause c.if-l-eq0.true) in
     record {
       result_after = (one-gone (λ m _. fail_if (eqb m a.n) a.cause) _ _ _ _ c.told-numbers _ _ _ refl a.n
           c.requires (λ _. at_place a.n a.n a.cause refl) (λ m _ q. at_other a.n m a.cause q) (p, same)).0;
@@ -30,9 +30,9 @@ pub returns : goal.returns
 returns c =
     let a = c.args in
     let p = does-report _ _ _ _ _ _ c.emit_removed.ensures
-        ∙ ap (λ (e : Effect). seen a.out.now a.at does e)
-        (ap (report _) c.put_legging.ensures.numbers_after
-        ∙ remove-place-held a.n (venue_of a.numbers.now) _ (legging-at a.numbers.now a.n c.requires ∙ sym c.legging_at-l.ensures) a.cause c.if-l-eq0.false) in
+    ∙ ap (λ (e : Effect). seen a.out.now a.at does e)
+    (ap (report _) c.put_legging.ensures.numbers_after
+    ∙ remove-place-held a.n (venue_of a.numbers.now) _ (legging-at a.numbers.now a.n c.requires ∙ sym c.legging_at-l.ensures) a.cause c.if-l-eq0.false) in
     record {
       result_after = (one-gone (λ m _. fail_if (eqb m a.n) a.cause) _ _ _ _ c.told-numbers _ _ _ (omega arith) a.n
           c.requires (λ _. at_place a.n a.n a.cause refl) (λ m _ q. at_other a.n m a.cause q) (p, c.put_legging.ensures.counts)).0;
