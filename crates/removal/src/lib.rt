@@ -75,6 +75,7 @@ pub fn remove_at(
 }
 
 // The cause of a number; None where it is no cause's.
+#[tactic(auto, unfolding(crate::specs::Causes::verdict_by))]
 pub fn verdict_by(x: u8) -> Option<Cause>
     ensures { result ≡ verdict_by x }
 {
