@@ -39,6 +39,7 @@ pub fn displayed_no_worse(numbers: &Numbers, best: u32, s: u8, d: u8, p: u32) ->
 }
 
 // The level that the leg of c takes that is not in series s.
+#[tactic(auto, unfolding(crate::specs::Parts::other_taken))]
 pub fn other_level(taken: TakenLevels, c: Complex, s: u8) -> Level
     ensures { result ≡ other_taken taken c s }
 {

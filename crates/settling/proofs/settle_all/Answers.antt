@@ -8,10 +8,6 @@ use Rattle.records.specs.Stage.{◌does◌}
 use Rattle.places.proofs.Beside.{counts-on}
 use Rattle.settling.proofs.settle_all.Goals as goal
 
-pub remove_failing-requires : goal.remove_failing-requires
-remove_failing-requires c =
-    c.show_again.ensures.counts.right c.requires
-
 pub returns : goal.returns
 unfolding settle
 returns c =
