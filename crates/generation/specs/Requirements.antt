@@ -1,8 +1,8 @@
 -- What the functions require, each part by its name.
-use Rattle.std.specs.Prelude.{◌≡◌, true, List, ℕ, ◌<◌, length}
+use Rattle.std.specs.Prelude.{◌≡◌, true, List, ℕ, ◌<◌}
 use Rattle.rules.specs.Words.{opposite}
 use Rattle.rules.specs.Prices.{best_regular}
-use Rattle.places.specs.Layout.{size, Right, Figured, venue_of}
+use Rattle.places.specs.Layout.{Right, Figured, venue_of}
 use Rattle.generation.specs.Parts.{may_generate}
 use Rattle.levels.specs.Grid.{LegsIn, SidesOf}
 use Rattle.rules.specs.declared.Complex.{Complex}

@@ -28,20 +28,17 @@ fn sign_times(d: u8, z: i64) -> i64
     if d == 0 {
         return z;
     }
-    0 - z
+    -z
 }
 
 // A price; 0 where the number is negative.
 fn as_price(z: i64) -> u64
     ensures { result ≡ as_price z }
 {
-    if z < 0 {
-        return 0;
-    }
-    z as u64
+    u64::try_from(z).unwrap_or(0)
 }
 
-// A price whose displayed price is from the increment to 100,000; else 0.
+// A price whose displayed price is from the increment to 100,000; else 0, which is no price in the rules and in every order.
 fn ranged(numbers: &Numbers, s: u8, d: u8, p: u64) -> u32
     requires { IncrementReady numbers.now s }
     ensures { result ≡ ranged_price (venue_of numbers.now) s d p }
@@ -52,7 +49,7 @@ fn ranged(numbers: &Numbers, s: u8, d: u8, p: u64) -> u32
     }
     let price = p as u32;
     let displayed = arithmetic::displayed_price(increment, d, price);
-    if displayed < (increment as u64) {
+    if displayed < u64::from(increment) {
         return 0;
     }
     if 100000 < displayed {
@@ -142,12 +139,8 @@ fn may_stand(numbers: &Numbers, sides: LegSides, c: Complex, s: u8, d: u8, p: u3
 fn leg_quantity(taken: TakenLevels, c: Complex, s: u8) -> u32
     ensures { result ≡ min c.quantity (other_taken taken c s).size }
 {
-    let open = c.quantity as u64;
     let best = settling::other_level(taken, c, s);
-    if open < best.size {
-        return c.quantity;
-    }
-    best.size as u32
+    u64::from(c.quantity).min(best.size) as u32
 }
 
 // With l at place n every other legging order passes its test; the grid is of the regular orders alone. The venue is left as it was.
@@ -170,6 +163,7 @@ fn plan_leg(numbers: &Numbers, c: Complex, s: u8, d: u8) -> Legging
     requires { PlanReady numbers.now c s d }
     ensures { result ≡ planned_leg (venue_of numbers.now) c s d }
 {
+    // No `Option`: no legging order is a free place, in the venue's numbers and in `planned_leg`.
     let none = rules::NO_LEGGING;
     let sides = levels::sides_at(numbers, c, s, d);
     let taken = sides.taken;
@@ -193,11 +187,11 @@ fn is_under_ceiling(numbers: &Numbers, number: u32, s: u8) -> bool
     requires { s < 8 }
     ensures { result ≡ under_ceiling number (generations_of (venue_of numbers.now) s) }
 {
-    let oldest = places::oldest_at(numbers, s as usize);
+    let oldest = places::oldest_at(numbers, usize::from(s));
     if oldest == 0 {
         return true;
     }
-    (oldest as u64) + 256 <= (number as u64)
+    u64::from(oldest) + 256 <= u64::from(number)
 }
 
 // The holder of the place goes, and then l is put there and counted in its series.
@@ -219,7 +213,7 @@ fn make_leg(
     let place = arithmetic::place_of(s, d);
     let pos = removal::remove_one(numbers, place, Cause::Replaced, out, at);
     place_writes::put_legging(numbers, place, l);
-    place_writes::count_generation(numbers, s as usize, number);
+    place_writes::count_generation(numbers, usize::from(s), number);
     records::emit_generated(out, pos, id, s, d, l.price, displayed, l.quantity)
 }
 

@@ -12,10 +12,11 @@ ghost use Rattle.places.specs.Requirements.{PlacesReady};
 use places::Numbers;
 use rules::Cause;
 
-// What stands at place n goes; a free place stays as it is.
-fn remove_place(numbers: &mut Numbers, n: usize, cause: Cause, out: &mut [u8], at: usize) -> usize
+// The legging order at place n goes; a free place stays as it is.
+pub fn remove_one(numbers: &mut Numbers, n: usize, cause: Cause, out: &mut [u8], at: usize) -> usize
     requires { n < 16 }
-    ensures result_after { stage (venue_of numbers.new) out.new result ≡ seen out.old at does remove_place n (Some cause) (venue_of numbers.old) }
+    ensures result_after { stage (venue_of numbers.new) out.new result ≡ seen out.old at does remove (λ m _. fail_if (eqb m n) cause) (venue_of numbers.old) }
+    ensures place_after { stage (venue_of numbers.new) out.new result ≡ seen out.old at does remove_place n (Some cause) (venue_of numbers.old) }
     ensures counts { SameCounts numbers.old numbers.new }
 {
     let l = places::legging_at(numbers, n);
@@ -39,26 +40,14 @@ pub fn remove_of(
     ensures counts { SameCounts numbers.old numbers.new }
 {
     let mut pos = at;
-    let mut n: usize = 0;
-    while n < 16 {
-        let place = n;
-        n += 1;
-        let l = places::legging_at(numbers, place);
+    for n in 0..16 {
+        let l = places::legging_at(numbers, n);
         if l.parent != parent {
             continue;
         }
-        pos = remove_place(numbers, place, cause, out, pos);
+        pos = remove_one(numbers, n, cause, out, pos);
     }
     pos
-}
-
-// The legging order at one place goes.
-pub fn remove_one(numbers: &mut Numbers, n: usize, cause: Cause, out: &mut [u8], at: usize) -> usize
-    requires { n < 16 }
-    ensures result_after { stage (venue_of numbers.new) out.new result ≡ seen out.old at does remove (λ m _. fail_if (eqb m n) cause) (venue_of numbers.old) }
-    ensures counts { SameCounts numbers.old numbers.new }
-{
-    remove_place(numbers, n, cause, out, at)
 }
 
 // The legging orders at two places go, the one at the lesser place first.
@@ -75,48 +64,33 @@ pub fn remove_at(
     ensures counts { SameCounts numbers.old numbers.new }
 {
     if n1 == n2 {
-        return remove_place(numbers, n1, cause, out, at);
+        return remove_one(numbers, n1, cause, out, at);
     }
     if n2 < n1 {
-        let pos = remove_place(numbers, n2, cause, out, at);
-        return remove_place(numbers, n1, cause, out, pos);
+        let pos = remove_one(numbers, n2, cause, out, at);
+        return remove_one(numbers, n1, cause, out, pos);
     }
-    let pos = remove_place(numbers, n1, cause, out, at);
-    remove_place(numbers, n2, cause, out, pos)
+    let pos = remove_one(numbers, n1, cause, out, at);
+    remove_one(numbers, n2, cause, out, pos)
 }
 
 // The cause of a number; None where it is no cause's.
+#[tactic(auto, unfolding(crate::specs::Causes::verdict_by))]
 pub fn verdict_by(x: u8) -> Option<Cause>
     ensures { result ≡ verdict_by x }
 {
-    if x == 1 {
-        return Some(Cause::Worse);
+    match x {
+        1 => Some(Cause::Worse),
+        2 => Some(Cause::Unpaired),
+        3 => Some(Cause::Executed),
+        4 => Some(Cause::Withdrawn),
+        5 => Some(Cause::OutOfBand),
+        6 => Some(Cause::NotOpen),
+        7 => Some(Cause::Replaced),
+        8 => Some(Cause::Touched),
+        10 => Some(Cause::NoUnit),
+        _ => None,
     }
-    if x == 2 {
-        return Some(Cause::Unpaired);
-    }
-    if x == 3 {
-        return Some(Cause::Executed);
-    }
-    if x == 4 {
-        return Some(Cause::Withdrawn);
-    }
-    if x == 5 {
-        return Some(Cause::OutOfBand);
-    }
-    if x == 6 {
-        return Some(Cause::NotOpen);
-    }
-    if x == 7 {
-        return Some(Cause::Replaced);
-    }
-    if x == 8 {
-        return Some(Cause::Touched);
-    }
-    if x == 10 {
-        return Some(Cause::NoUnit);
-    }
-    None
 }
 
 // The legging orders at the places that have a cause's number in `causes` go, each for that cause.
@@ -127,16 +101,16 @@ pub fn remove_by_causes(numbers: &mut Numbers, causes: u64, out: &mut [u8], at: 
     let mut pos = at;
     let mut n: usize = 0;
     let mut rest = causes;
+    // No `for` over the places: the loop ends with the last cause.
     while 0 < rest {
         let place = n;
         n += 1;
         let x = (rest % 16) as u8;
-        rest = rest / 16;
-        let found = verdict_by(x);
-        let Some(cause) = found else {
+        rest /= 16;
+        let Some(cause) = verdict_by(x) else {
             continue;
         };
-        pos = remove_place(numbers, place, cause, out, pos);
+        pos = remove_one(numbers, place, cause, out, pos);
     }
     pos
 }

@@ -1,3 +1,2 @@
 pub mod SetMemory
 pub mod Parts
-pub mod Requirements

@@ -1,10 +1,8 @@
 -- The parts of a set as they are written from the numbers of a venue.
-use Rattle.std.specs.Prelude.{◌≡◌, Bool, true, false, List, [], ℕ, suc, ◌+◌, ◌-◌, ◌*◌, ◌≤◌, leb, ltb, if◌then◌else◌}
+use Rattle.std.specs.Prelude.{Bool, true, false, List, [], ℕ, ◌+◌, ◌-◌, ◌*◌, leb, ltb, if◌then◌else◌}
 use Rattle.rules.specs.Base.{held}
 use Rattle.places.specs.Layout.{upto, regular_in, complex_in, legging_in}
-use Rattle.sets.specs.Set.{by_id, joined, legging_record}
-use Rattle.set_parts.specs.declared.Orders.{Orders}
-use Rattle.set_parts.specs.SetMemory.{set_memory, ◌adds◌}
+use Rattle.sets.specs.Set.{by_id, legging_record}
 
 -- a record, where there is one
 unfoldable pub record_if : Bool → List ℕ → List ℕ
@@ -17,13 +15,6 @@ orders_from b n m i j = by_id (n - i + (m - j)) (upto (regular_in b) i (n - i)) 
 -- the regular order at place i is the next one: it is there, and none of the complex orders from place j on has a lesser id
 unfoldable pub regular_next : List ℕ → (n m i j : ℕ) → Bool
 regular_next b n m i j = if leb n i then false else if leb m j then true else ltb (regular_in b i).id (complex_in b j).id
-
--- from t to r one order more is written
-pub record OneMore (b : List ℕ) (n m : ℕ) (t : Orders) (l₀ : List ℕ) (r : Orders) (l : List ℕ) : Type 0 where
-  pub same : set_memory l r.at adds joined (orders_from b n m r.regular r.complex) ≡ set_memory l₀ t.at adds joined (orders_from b n m t.regular t.complex)
-  pub regular : r.regular ≤ n
-  pub complex : r.complex ≤ m
-  pub one : r.regular + r.complex ≡ suc (t.regular + t.complex)
 
 -- the record of the legging order at a side's place of a series, where it holds one
 unfoldable pub side_record : List ℕ → (series side : ℕ) → List ℕ

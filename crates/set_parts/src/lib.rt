@@ -11,19 +11,10 @@ ghost use Rattle.rules.specs.Places.{holds_edition};
 ghost use Rattle.places.specs.Layout.{size, venue_of, regulars_used, complexes_used};
 ghost use Rattle.sets.specs.Set.{first_record, series_records, edition_record, regular_record, complex_record, legging_record, legging_records, generation_record, generation_records, reached_records, joined};
 ghost use Rattle.set_parts.specs.SetMemory.{set_memory, ◌adds◌};
-ghost use Rattle.set_parts.specs.Parts.{record_if, orders_from, regular_next, OneMore, side_record};
-ghost use Rattle.set_parts.specs.Requirements.{OrdersLeft};
+ghost use Rattle.set_parts.specs.Parts.{record_if, orders_from, regular_next, side_record};
 
 use places::Numbers;
 use rules::{Complex, Edition, Legging, Listed, Regular};
-
-// Where the orders of both books stand: the position, and the next place of either.
-#[derive(Clone, Copy)]
-pub struct Orders {
-    at: usize,
-    regular: usize,
-    complex: usize,
-}
 
 // Records -------------------------------------------------------------------------------------
 
@@ -95,7 +86,7 @@ fn put_two_leg(out: &mut [u8], at: usize, length: u8, kind: u8, c: Complex) -> u
     let head = [
         length, 0, kind, 0, i[0], i[1], i[2], i[3], c.series1, c.side1, c.series2, c.side2, c.class,
     ];
-    let words = [records::bits(c.limit as i64), c.quantity];
+    let words = [records::bits(i64::from(c.limit)), c.quantity];
     records::put_words(out, at, &head, &words)
 }
 
@@ -162,11 +153,9 @@ pub fn put_series(numbers: &Numbers, out: &mut [u8], at: usize) -> usize
     ensures { set_memory out.new result ≡ set_memory out.old at adds joined (series_records 0 (venue_of numbers.now).series) }
 {
     let mut pos = at;
-    let mut s: usize = 0;
-    while s < 8 {
+    for s in 0..8 {
         let x = places::listed_at(numbers, s);
         pos = put_listed(out, pos, s as u8, x);
-        s += 1;
     }
     pos
 }
@@ -176,11 +165,9 @@ pub fn put_editions(numbers: &Numbers, out: &mut [u8], at: usize) -> usize
     ensures { set_memory out.new result ≡ set_memory out.old at adds joined (map edition_record (keep holds_edition (venue_of numbers.now).editions)) }
 {
     let mut pos = at;
-    let mut i: usize = 0;
-    while i < 32 {
+    for i in 0..32 {
         let e = places::edition_at(numbers, i);
         pos = put_edition(out, pos, e);
-        i += 1;
     }
     pos
 }
@@ -200,47 +187,27 @@ fn regular_next(numbers: &Numbers, n: usize, m: usize, i: usize, j: usize) -> bo
     places::regular_id(numbers, i) < c.id
 }
 
-// One order more, of either book.
-fn put_next(numbers: &Numbers, n: usize, m: usize, t: Orders, out: &mut [u8]) -> Orders
-    requires { OrdersLeft numbers.now n m t }
-    ensures { OneMore numbers.now n m t out.old result out.new }
-{
-    let at = t.at;
-    let i = t.regular;
-    let j = t.complex;
-    if regular_next(numbers, n, m, i, j) {
-        let o = places::regular_at(numbers, i);
-        let pos = put_regular(out, at, o);
-        return Orders {
-            at: pos,
-            regular: i + 1,
-            complex: j,
-        };
-    }
-    let c = places::complex_at(numbers, j);
-    let pos = put_complex(out, at, c);
-    Orders {
-        at: pos,
-        regular: i,
-        complex: j + 1,
-    }
-}
-
 // The resting orders of both books by rising id.
 pub fn put_orders(numbers: &Numbers, out: &mut [u8], at: usize) -> usize
     ensures { set_memory out.new result ≡ set_memory out.old at adds joined (orders_from numbers.now (regulars_used numbers.now) (complexes_used numbers.now) 0 0) }
 {
     let n = places::regulars_used(numbers);
     let m = places::complexes_used(numbers);
-    let mut t = Orders {
-        at,
-        regular: 0,
-        complex: 0,
-    };
-    while t.regular + t.complex < n + m {
-        t = put_next(numbers, n, m, t, out);
+    let mut pos = at;
+    let mut i: usize = 0;
+    let mut j: usize = 0;
+    for _turn in 0..n + m {
+        if regular_next(numbers, n, m, i, j) {
+            let o = places::regular_at(numbers, i);
+            pos = put_regular(out, pos, o);
+            i += 1;
+            continue;
+        }
+        let c = places::complex_at(numbers, j);
+        pos = put_complex(out, pos, c);
+        j += 1;
     }
-    t.at
+    pos
 }
 
 // The legging orders of a series, its first side's first.
@@ -259,10 +226,8 @@ pub fn put_leggings(numbers: &Numbers, out: &mut [u8], at: usize) -> usize
     ensures { set_memory out.new result ≡ set_memory out.old at adds joined (legging_records 0 (venue_of numbers.now).legging) }
 {
     let mut pos = at;
-    let mut s: usize = 0;
-    while s < 8 {
+    for s in 0..8 {
         pos = put_sides(numbers, out, pos, s);
-        s += 1;
     }
     pos
 }
@@ -273,11 +238,9 @@ fn put_generations(numbers: &Numbers, out: &mut [u8], at: usize, s: usize) -> us
     ensures { set_memory out.new result ≡ set_memory out.old at adds joined (map (generation_record s) (keep held (generations_of (venue_of numbers.now) s))) }
 {
     let mut pos = at;
-    let mut k: usize = 0;
-    while k < 20 {
+    for k in 0..20 {
         let number = places::generation_at(numbers, s, k);
         pos = put_generation(out, pos, s as u8, number);
-        k += 1;
     }
     pos
 }
@@ -287,10 +250,8 @@ pub fn put_all_generations(numbers: &Numbers, out: &mut [u8], at: usize) -> usiz
     ensures { set_memory out.new result ≡ set_memory out.old at adds joined (generation_records 0 (venue_of numbers.now).generations) }
 {
     let mut pos = at;
-    let mut s: usize = 0;
-    while s < 8 {
+    for s in 0..8 {
         pos = put_generations(numbers, out, pos, s);
-        s += 1;
     }
     pos
 }

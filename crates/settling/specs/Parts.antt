@@ -1,5 +1,5 @@
 -- Parts of the test that a function of their own decides.
-use Rattle.std.specs.Prelude.{not, ℕ, eqb, if◌then◌else◌}
+use Rattle.std.specs.Prelude.{ℕ, eqb, if◌then◌else◌}
 use Rattle.rules.specs.declared.Complex.{Complex}
 use Rattle.places.specs.declared.Level.{Level}
 use Rattle.levels.specs.declared.TakenLevels.{TakenLevels}

@@ -35,10 +35,11 @@ pub fn displayed_no_worse(numbers: &Numbers, best: u32, s: u8, d: u8, p: u32) ->
     requires { IncrementReady numbers.now s }
     ensures { result ≡ not (better d best (displayed_price (increment (venue_of numbers.now) s) d p)) }
 {
-    !arithmetic::is_better_wide(d, best as u64, displayed_in_series(numbers, s, d, p))
+    !arithmetic::is_better_wide(d, u64::from(best), displayed_in_series(numbers, s, d, p))
 }
 
 // The level that the leg of c takes that is not in series s.
+#[tactic(auto, unfolding(crate::specs::Parts::other_taken))]
 pub fn other_level(taken: TakenLevels, c: Complex, s: u8) -> Level
     ensures { result ≡ other_taken taken c s }
 {
@@ -77,7 +78,7 @@ pub fn can_pair(numbers: &Numbers, taken: TakenLevels, c: Complex, s: u8, d: u8,
     let limit = limit_of(c);
     if net <= limit {
         let best = other_level(taken, c, s);
-        return (l.quantity as u64) <= best.size;
+        return u64::from(l.quantity) <= best.size;
     }
     false
 }
@@ -132,15 +133,13 @@ fn verdicts(numbers: &Numbers, g: [[Level; 2]; 8]) -> u64
     ensures { (n : ℕ) → n < 16 → cause_at result n ≡ verdict_number (verdict (venue_of numbers.now) n (legging_in numbers.now n)) }
 {
     let mut causes: u64 = 0;
-    let mut n: usize = 16;
-    while 0 < n {
-        n -= 1;
-        causes = causes * 16;
+    for n in (0..16).rev() {
+        causes *= 16;
         let l = places::legging_at(numbers, n);
         if l.quantity == 0 {
             continue;
         }
-        causes += arithmetic::verdict_number(judge(numbers, g, n)) as u64;
+        causes += u64::from(arithmetic::verdict_number(judge(numbers, g, n)));
     }
     causes
 }
@@ -185,18 +184,15 @@ pub fn others_stand(numbers: &Numbers, g: [[Level; 2]; 8], m: usize) -> bool
     requires { GridReady numbers.now g }
     ensures { result ≡ others_stand (venue_of numbers.now) m 0 (venue_of numbers.now).legging }
 {
-    let mut n: usize = 0;
-    while n < 16 {
-        let place = n;
-        n += 1;
-        if place == m {
+    for n in 0..16 {
+        if n == m {
             continue;
         }
-        let l = places::legging_at(numbers, place);
+        let l = places::legging_at(numbers, n);
         if l.quantity == 0 {
             continue;
         }
-        if judge(numbers, g, place).is_some() {
+        if judge(numbers, g, n).is_some() {
             return false;
         }
     }

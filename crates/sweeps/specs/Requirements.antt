@@ -1,6 +1,6 @@
 -- What the functions require, each part by its name.
-use Rattle.std.specs.Prelude.{◌≡◌, List, ℕ, ◌≤◌, ◌+◌, length}
-use Rattle.places.specs.Layout.{size, Right, Dense, complexes_used, venue_of}
+use Rattle.std.specs.Prelude.{List, ℕ, ◌≤◌, ◌+◌}
+use Rattle.places.specs.Layout.{Right, Dense, complexes_used, venue_of}
 use Rattle.sweeps.specs.Rising.{Rising}
 use Rattle.sweeps.specs.declared.Round.{Round}
 

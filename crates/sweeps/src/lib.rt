@@ -2,57 +2,75 @@
 // Each function says in one equation the venue that it leaves and all that it writes: those of its definition.
 #![tactic(auto)]
 
-ghost use Rattle.std.specs.Prelude.{◌≡◌, ◌++◌, ◌+◌, ◌-◌, ◌≤◌, take};
+ghost use Rattle.std.specs.Prelude.{◌≡◌, ℕ, ◌++◌, ◌+◌, ◌-◌, ◌≤◌, take};
+ghost use Rattle.rules.specs.declared.Venue.{Venue};
+ghost use Rattle.rules.specs.Effects.{Effect};
 ghost use Rattle.rules.specs.Generation.{generate};
 ghost use Rattle.rules.specs.Complex.{going_round, examined, id_reached, each_of};
 ghost use Rattle.rules.specs.Complex as complex;
 ghost use Rattle.records.specs.Seen.{seen};
 ghost use Rattle.records.specs.Stage.{stage, ◌does◌};
 ghost use Rattle.places.specs.Layout.{complexes_used, venue_of, SameCounts, Dense};
+ghost use Rattle.places.specs.Requirements.{RightComplex};
 ghost use Rattle.sweeps.specs.Round.{places_from, round_places};
 ghost use Rattle.sweeps.specs.Requirements.{DenseRising, RightPlaces, RightRound, RoundReady};
 
 use places::Numbers;
 
-// The orders at `count` places from `first` on are worked; at a freed place nothing is done.
-fn work_places(
-    numbers: &mut Numbers,
-    first: usize,
-    count: usize,
-    out: &mut [u8],
-    at: usize,
-) -> usize
-    requires { RightPlaces numbers.old first count }
-    ensures result_after { stage (venue_of numbers.new) out.new result ≡ seen out.old at does each_of complex.work (places_from first count) (venue_of numbers.old) }
-    ensures counts { SameCounts numbers.old numbers.new }
-{
-    let mut pos = at;
-    let mut k: usize = 0;
-    while k < count {
-        pos = work::work(numbers, first + k, out, pos);
-        k += 1;
-    }
-    pos
+// What a sweep does for one order after the other.
+trait Task: Copy {
+    // what it comes to at a place
+    ghost effect: { Self → ℕ → Venue → Effect };
+
+    // It is done for the order at place i.
+    fn perform(self, numbers: &mut Numbers, i: usize, out: &mut [u8], at: usize) -> usize
+        requires { RightComplex numbers.old i }
+        ensures result_after { stage (venue_of numbers.new) out.new result ≡ seen out.old at does effect self i (venue_of numbers.old) }
+        ensures counts { SameCounts numbers.old numbers.new };
 }
 
-// Generation for the orders at `count` places from `first` on.
-fn generate_places(
-    numbers: &mut Numbers,
+// An order is worked; at a freed place nothing is done.
+#[derive(Clone, Copy)]
+struct Working;
+
+impl Task for Working {
+    ghost effect = { λ _. complex.work };
+
+    fn perform(self, numbers: &mut Numbers, i: usize, out: &mut [u8], at: usize) -> usize {
+        work::work(numbers, i, out, at)
+    }
+}
+
+// Generation for an order, in the message of this number.
+#[derive(Clone, Copy)]
+struct Generating {
     number: u32,
+}
+
+impl Task for Generating {
+    ghost effect = { λ g. generate g.number };
+
+    fn perform(self, numbers: &mut Numbers, i: usize, out: &mut [u8], at: usize) -> usize {
+        generation::generate_order(numbers, self.number, i, out, at)
+    }
+}
+
+// A task for the orders at `count` places from `first` on.
+fn at_places<T: Task>(
+    task: T,
+    numbers: &mut Numbers,
     first: usize,
     count: usize,
     out: &mut [u8],
     at: usize,
 ) -> usize
     requires { RightPlaces numbers.old first count }
-    ensures result_after { stage (venue_of numbers.new) out.new result ≡ seen out.old at does each_of (generate number) (places_from first count) (venue_of numbers.old) }
+    ensures result_after { stage (venue_of numbers.new) out.new result ≡ seen out.old at does each_of (T.effect task) (places_from first count) (venue_of numbers.old) }
     ensures counts { SameCounts numbers.old numbers.new }
 {
     let mut pos = at;
-    let mut k: usize = 0;
-    while k < count {
-        pos = generation::generate_order(numbers, number, first + k, out, pos);
-        k += 1;
+    for k in first..first + count {
+        pos = task.perform(numbers, k, out, pos);
     }
     pos
 }
@@ -65,9 +83,9 @@ pub fn sweep(numbers: &mut Numbers, number: u32, out: &mut [u8], at: usize) -> u
     ensures counts { SameCounts numbers.old numbers.new }
 {
     let used = places::complexes_used(numbers);
-    let worked = work_places(numbers, 0, used, out, at);
+    let worked = at_places(Working, numbers, 0, used, out, at);
     let settled = settling::settle_all(numbers, out, worked);
-    generate_places(numbers, number, 0, used, out, settled)
+    at_places(Generating { number }, numbers, 0, used, out, settled)
 }
 
 // The places that a limited sweep looks at: `above` of them from `first` on, and then `others` from 0 on.
@@ -93,13 +111,11 @@ fn round_start(numbers: &Numbers) -> usize
 {
     let used = places::complexes_used(numbers);
     let reached = places::reached_id(numbers);
-    let mut k: usize = 0;
-    while k < used {
+    for k in 0..used {
         let c = places::complex_at(numbers, k);
         if reached < c.id {
             return k;
         }
-        k += 1;
     }
     used
 }
@@ -112,7 +128,7 @@ fn round_of(numbers: &Numbers, n: u8) -> Round
 {
     let used = places::complexes_used(numbers);
     let first = round_start(numbers);
-    let most = n as usize;
+    let most = usize::from(n);
     let above = used - first;
     if most <= above {
         return Round {
@@ -151,24 +167,14 @@ fn last_looked(numbers: &Numbers, r: Round) -> u32
     places::reached_id(numbers)
 }
 
-// The orders to look at are worked, in the order of the round.
-fn work_round(numbers: &mut Numbers, r: Round, out: &mut [u8], at: usize) -> usize
+// A task for the orders to look at, in the order of the round.
+fn at_round<T: Task>(task: T, numbers: &mut Numbers, r: Round, out: &mut [u8], at: usize) -> usize
     requires { RightRound numbers.old r }
-    ensures result_after { stage (venue_of numbers.new) out.new result ≡ seen out.old at does each_of complex.work (round_places r) (venue_of numbers.old) }
+    ensures result_after { stage (venue_of numbers.new) out.new result ≡ seen out.old at does each_of (T.effect task) (round_places r) (venue_of numbers.old) }
     ensures counts { SameCounts numbers.old numbers.new }
 {
-    let pos = work_places(numbers, r.first, r.above, out, at);
-    work_places(numbers, 0, r.others, out, pos)
-}
-
-// Generation for them, in that order.
-fn generate_round(numbers: &mut Numbers, number: u32, r: Round, out: &mut [u8], at: usize) -> usize
-    requires { RightRound numbers.old r }
-    ensures result_after { stage (venue_of numbers.new) out.new result ≡ seen out.old at does each_of (generate number) (round_places r) (venue_of numbers.old) }
-    ensures counts { SameCounts numbers.old numbers.new }
-{
-    let pos = generate_places(numbers, number, r.first, r.above, out, at);
-    generate_places(numbers, number, 0, r.others, out, pos)
+    let pos = at_places(task, numbers, r.first, r.above, out, at);
+    at_places(task, numbers, 0, r.others, out, pos)
 }
 
 // A sweep of at most n resting orders, which starts after the last id that one looked at: how many it looks at is told first. Its places stay
@@ -184,8 +190,8 @@ pub fn limited_sweep(numbers: &mut Numbers, number: u32, n: u8, out: &mut [u8], 
     let id = last_looked(numbers, round);
     place_writes::put_reached(numbers, id);
     let told = records::emit_looked(out, at, looked);
-    let worked = work_round(numbers, round, out, told);
+    let worked = at_round(Working, numbers, round, out, told);
     let settled = settling::settle_all(numbers, out, worked);
-    let end = generate_round(numbers, number, round, out, settled);
+    let end = at_round(Generating { number }, numbers, round, out, settled);
     Swept { at: end, looked }
 }

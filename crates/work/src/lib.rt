@@ -44,7 +44,7 @@ fn can_leg_in(numbers: &Numbers, taken: TakenLevels, c: Complex, a: u32, p: u32)
 fn contracts(ratio: u8, k: u32) -> u64
     ensures { result ≡ ratio * k }
 {
-    (ratio as u64) * (k as u64)
+    u64::from(ratio) * u64::from(k)
 }
 
 // k units of the order at place i, at prices a and p: the first leg's trades, the second's, the pair.
@@ -80,7 +80,7 @@ fn units(n: u64, ratio: u8) -> u64
     if ratio == 0 {
         return 0;
     }
-    n / (ratio as u64)
+    n / u64::from(ratio)
 }
 
 // As many units as c has open and the sizes at the best prices fill; taken has their levels.
@@ -106,9 +106,7 @@ pub fn leg_in_all(
     ensures counts { SameCounts numbers.old numbers.new }
 {
     let mut pos = at;
-    let mut turns = quantity;
-    while 0 < turns {
-        turns -= 1;
+    for _turn in 0..quantity {
         let c = places::complex_at(numbers, i);
         let taken = levels::taken_at(numbers, c);
         let first = taken.first;

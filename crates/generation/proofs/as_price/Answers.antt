@@ -1,19 +1,26 @@
 -- `generation::as_price` meets its contract.
+use Rattle.std.specs.Prelude.{Result, Ok, Err}
+use Rattle.std.specs.Result.{OkIff, result_unwrap_or}
+use Rattle.std.specs.Int.{FitsUnsignedBits}
 use Rattle.rules.specs.Generation.{as_price}
-use Rattle.rules.proofs.Machine.{negative, positive}
+use mir.Val.{SFits}
 use mir.ValLaws.{to_z-of_z}
 use mir.Syntax.{w64}
+use lib.IntN.{ℤ, pos, negsuc, nat_abs}
+use Prim.Native.Nat.{ℕ, ◌<◌}
 use native.Mathlib.Omega.{arith}
-use mathlib.Core.Path.{sym, ap}
+use mathlib.Core.Path.{◌≡◌, refl, ◌∙◌}
 use Rattle.generation.proofs.as_price.Goals as goal
 
-pub returns-then-z-lt0 : goal.returns-then-z-lt0
+-- a number converts where it is not negative
+price : {E : Type 0} (z : ℤ) (r : Result ℕ E) → SFits w64 z → OkIff r (FitsUnsignedBits 64 z) (nat_abs z) → result_unwrap_or r 0 ≡ as_price z
 unfolding as_price
-returns-then-z-lt0 c = let z = c.args.z in let (n, e, h) = negative z c.ranges.z c.if-z-lt0.true in sym (ap as_price e)
-
-pub overflow_cast-result : goal.overflow_cast-result
-overflow_cast-result c = let z = c.args.z in let (n, e, h) = positive z c.ranges.z c.if-z-lt0.false in rw (to_z-of_z w64 z c.ranges.z, e) (tt, record { fits = omega arith })
+price (pos n) (Ok x) f h = h.1
+price (pos n) (Err e) f h = let k : n < 9223372036854775808 = f.sfits in absurd (h (omega arith))
+price (negsuc n) (Ok x) f h = absurd h.0
+price (negsuc n) (Err e) f h = refl
 
 pub returns : goal.returns
-unfolding as_price
-returns c = let z = c.args.z in let (n, e, h) = positive z c.ranges.z c.if-z-lt0.false in rw (to_z-of_z w64 z c.ranges.z, e)
+returns c =
+    c.unwrap_or.ensures
+    ∙ price c.args.z c.try_from.result c.ranges.z (rw (to_z-of_z w64 c.args.z c.ranges.z) at c.try_from.ensures)

@@ -1,5 +1,5 @@
 -- `generation::leg_price` meets its contract.
-use Rattle.generation.proofs.PartsLaws.{diff-fits, diff_is, diff-abs, priced-none, priced-is}
+use Rattle.generation.proofs.PartsLaws.{diff_is, priced-none, priced-is}
 use Rattle.rules.proofs.Machine.{back}
 use native.Mathlib.Omega.{arith}
 use mathlib.Core.Path.{◌∙◌}
@@ -7,13 +7,6 @@ use Rattle.generation.proofs.leg_price.Goals as goal
 
 pub returns-then-clear-eq0 : goal.returns-then-clear-eq0
 returns-then-clear-eq0 c = priced-none _ c.args.c _ _ _ c.other_clear-clear.ensures c.if-clear-eq0.true
-
-pub overflow_sub-limit : goal.overflow_sub-limit
-overflow_sub-limit c = diff-fits {a = c.limit_of-limit.result} {b = c.sign_times_price-price.result} (record { sfits = c.limit_of-limit.type_inv })
-    (record { sfits = c.sign_times_price-price.type_inv }) (omega (arith, c.limit_of-limit.ensures.1, c.sign_times_price-price.ensures.1))
-
-pub sign_times-requires : goal.sign_times-requires
-sign_times-requires c = diff-abs {a = c.limit_of-limit.result} {b = c.sign_times_price-price.result} (record { sfits = c.limit_of-limit.type_inv }) (record { sfits = c.sign_times_price-price.type_inv }) (omega (arith, c.limit_of-limit.ensures.1, c.sign_times_price-price.ensures.1))
 
 pub returns : goal.returns
 returns c = let a = c.args in

@@ -4,8 +4,6 @@ use Rattle.generation.specs.Parts.{may_generate}
 use Rattle.places.specs.Layout.{venue_of}
 use Rattle.rules.proofs.Machine.{back}
 use Rattle.rules.specs.Prices.{in_band}
-use lib.IntN.{nat_abs}
-use native.Mathlib.Omega.{arith}
 use mathlib.Core.Path.{ap, ◌∙◌}
 use Rattle.generation.proofs.may_generate.Goals as goal
 
@@ -17,12 +15,6 @@ pub returns-then-not-both_open : goal.returns-then-not-both_open
 unfolding may_generate
 returns-then-not-both_open c =
     simp (on _ _ c.is_one_to_one.ensures c.if-not-is_one_to_one.false-raw, off _ _ c.both_open.ensures c.if-not-both_open.true-raw)
-
-pub in_band-requires : goal.in_band-requires
-in_band-requires c =
-    let p = c.requires in
-    let q = back {z = c.limit_of.result} (record { sfits = c.limit_of.type_inv }) in
-    record { taken = p.taken; legs = p.legs; bound = omega (arith, ap nat_abs q, c.limit_of.ensures.1); figures = p.figures }
 
 pub returns : goal.returns
 unfolding may_generate

@@ -1,10 +1,8 @@
 -- `generation::others_stand_with` meets its contract.
 use Rattle.generation.proofs.PartsLaws.{grid-kept, placed-regular, placed-back}
-use Rattle.rules.specs.Generation.{placed, others_stand}
+use Rattle.rules.specs.Generation.{placed}
 use Rattle.rules.specs.declared.Venue.{Venue}
-use Rattle.places.proofs.Beside.{counts-on}
 use mathlib.Core.Path.{ap, ◌∙◌}
-use borrow.Author.Rules.{rules}
 use Rattle.generation.proofs.others_stand_with.Goals as goal
 
 pub others_stand-stand-requires : goal.others_stand-stand-requires
@@ -14,7 +12,7 @@ others_stand-stand-requires c =
       figures = (c.put_legging.ensures.counts.right c.requires.right).marked.figures;
     }
 
-pub returns : goal.returns
-returns c =
+pub returns-clause-kept : goal.returns-clause-kept
+returns-clause-kept c =
     let a = c.args in
-    record { value = c.others_stand-stand.ensures ∙ ap (λ (w : Venue). others_stand w a.n 0 w.legging) c.put_legging.ensures.numbers_after; kept = c.put_legging-2.ensures.numbers_after ∙ ap (placed a.n c.legging_at-old.result) c.put_legging.ensures.numbers_after ∙ placed-back a.numbers.now a.n a.l c.legging_at-old.result c.requires.place c.legging_at-old.ensures; counts = counts-on _ _ _ c.put_legging.ensures.counts c.put_legging-2.ensures.counts }
+    c.put_legging-2.ensures.numbers_after ∙ ap (placed a.n c.legging_at-old.result) c.put_legging.ensures.numbers_after ∙ placed-back a.numbers.now a.n a.l c.legging_at-old.result c.requires.place c.legging_at-old.ensures

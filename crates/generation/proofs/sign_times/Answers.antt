@@ -7,8 +7,5 @@ use Rattle.generation.proofs.sign_times.Goals as goal
 pub returns-then-d-eq0 : goal.returns-then-d-eq0
 returns-then-d-eq0 c = back {z = c.args.z} c.ranges.z ∙ sign-buy _ c.args.z c.if-d-eq0.true
 
-pub overflow_sub-result : goal.overflow_sub-result
-overflow_sub-result c = turned-fits c.args.z c.ranges.z c.requires
-
 pub returns : goal.returns
 returns c = turned-is c.args.z c.ranges.z (turned-fits c.args.z c.ranges.z c.requires) ∙ sign-sell _ c.args.z c.if-d-eq0.false

@@ -1,61 +1,32 @@
 -- `removal::remove_at` meets its contract.
-use mathlib.Core.Path.{refl, sym, ◌∙◌}
+use mathlib.Core.Path.{refl}
 use mathlib.Core.Bool.{◌||◌}
 use native.Mathlib.Omega.{arith}
 use lib.Dec.{eqb}
 use Rattle.rules.specs.Removal.{fail_if}
-use Rattle.removal.proofs.RemovalLaws.{one-gone, two_gone, at_one, at-two, at-neither}
+use Rattle.removal.proofs.RemovalLaws.{two_gone, at_one, at-two, at-neither}
 use Rattle.removal.proofs.remove_at.Goals as goal
 
-pub returns-then-n1-n2 : goal.returns-then-n1-n2
-returns-then-n1-n2 c =
-    let a = c.args in
-    record {
-      result_after = (one-gone (λ m _. fail_if (eqb m a.n1 || eqb m a.n2) a.cause) _ _ _ _ c.told-numbers _ _ _
-          (omega arith) a.n1 c.requires.first (λ _. at_one a.n1 a.n2 a.n1 a.cause refl)
-          (λ m _ p. at-neither a.n1 a.n2 m a.cause p (λ e. p (e ∙ sym c.if-n1-n2.true)))
-          (c.remove_place.ensures.result_after, c.remove_place.ensures.counts)).0;
-      counts = (one-gone (λ m _. fail_if (eqb m a.n1 || eqb m a.n2) a.cause) _ _ _ _ c.told-numbers _ _ _
-          (omega arith) a.n1 c.requires.first (λ _. at_one a.n1 a.n2 a.n1 a.cause refl)
-          (λ m _ p. at-neither a.n1 a.n2 m a.cause p (λ e. p (e ∙ sym c.if-n1-n2.true)))
-          (c.remove_place.ensures.result_after, c.remove_place.ensures.counts)).1;
-    }
-
-pub returns-then-n2-n1 : goal.returns-then-n2-n1
-returns-then-n2-n1 c =
+pub returns-then-n2-n1-clause-result_after : goal.returns-then-n2-n1-clause-result_after
+returns-then-n2-n1-clause-result_after c =
     let s = c
     in
     let a = s.args in
-    record {
-      result_after = (two_gone (λ m _. fail_if (eqb m a.n1 || eqb m a.n2) a.cause) _ _ _ _ c.told-numbers _ _ _
-          (omega arith) a.n2 a.n1
-          c.if-n2-n1.true s.requires.first (λ _. at-two
-          a.n1 a.n2 a.n2 a.cause refl) (λ _. at_one a.n1 a.n2 a.n1 a.cause refl) (λ m _ p q. at-neither a.n1 a.n2 m a.cause q p)
-          (c.remove_place-pos.ensures.result_after, c.remove_place-pos.ensures.counts) _ _ _
-          (omega arith) (c.remove_place-then-n2-n1.ensures.result_after, c.remove_place-then-n2-n1.ensures.counts)).0;
-      counts = (two_gone (λ m _. fail_if (eqb m a.n1 || eqb m a.n2) a.cause) _ _ _ _ c.told-numbers _ _ _
-          (omega arith) a.n2 a.n1
-          c.if-n2-n1.true s.requires.first (λ _. at-two
-          a.n1 a.n2 a.n2 a.cause refl) (λ _. at_one a.n1 a.n2 a.n1 a.cause refl) (λ m _ p q. at-neither a.n1 a.n2 m a.cause q p)
-          (c.remove_place-pos.ensures.result_after, c.remove_place-pos.ensures.counts) _ _ _
-          (omega arith) (c.remove_place-then-n2-n1.ensures.result_after, c.remove_place-then-n2-n1.ensures.counts)).1;
-    }
+    (two_gone (λ m _. fail_if (eqb m a.n1 || eqb m a.n2) a.cause) _ _ _ _ c.told-numbers _ _ _
+    (omega arith) a.n2 a.n1
+    c.if-n2-n1.true s.requires.first (λ _. at-two
+    a.n1 a.n2 a.n2 a.cause refl) (λ _. at_one a.n1 a.n2 a.n1 a.cause refl) (λ m _ p q. at-neither a.n1 a.n2 m a.cause q p)
+    (c.remove_one-pos.ensures.place_after, c.remove_one-pos.ensures.counts) _ _ _
+    (omega arith) (c.remove_one-then-n2-n1.ensures.place_after, c.remove_one-then-n2-n1.ensures.counts)).0
 
-pub returns : goal.returns
-returns c =
+pub returns-clause-result_after : goal.returns-clause-result_after
+returns-clause-result_after c =
     let s = c
     in
     let a = s.args in
     let n = c.if-n1-n2.false in
-    record {
-      result_after = (two_gone (λ m _. fail_if (eqb m a.n1 || eqb m a.n2) a.cause) _ _ _ _ c.told-numbers _ _ _
-          (omega arith) a.n1 a.n2 (omega (arith, n))
-          s.requires.second (λ _. at_one a.n1 a.n2 a.n1 a.cause refl) (λ _. at-two a.n1 a.n2 a.n2 a.cause refl) (λ m _ p q. at-neither a.n1
-          a.n2 m a.cause p q) (c.remove_place-pos-2.ensures.result_after, c.remove_place-pos-2.ensures.counts) _ _ _
-          (omega arith) (c.remove_place-2.ensures.result_after, c.remove_place-2.ensures.counts)).0;
-      counts = (two_gone (λ m _. fail_if (eqb m a.n1 || eqb m a.n2) a.cause) _ _ _ _ c.told-numbers _ _ _
-          (omega arith) a.n1 a.n2 (omega (arith, n))
-          s.requires.second (λ _. at_one a.n1 a.n2 a.n1 a.cause refl) (λ _. at-two a.n1 a.n2 a.n2 a.cause refl) (λ m _ p q. at-neither a.n1
-          a.n2 m a.cause p q) (c.remove_place-pos-2.ensures.result_after, c.remove_place-pos-2.ensures.counts) _ _ _
-          (omega arith) (c.remove_place-2.ensures.result_after, c.remove_place-2.ensures.counts)).1;
-    }
+    (two_gone (λ m _. fail_if (eqb m a.n1 || eqb m a.n2) a.cause) _ _ _ _ c.told-numbers _ _ _
+    (omega arith) a.n1 a.n2 (omega (arith, n))
+    s.requires.second (λ _. at_one a.n1 a.n2 a.n1 a.cause refl) (λ _. at-two a.n1 a.n2 a.n2 a.cause refl) (λ m _ p q. at-neither a.n1
+    a.n2 m a.cause p q) (c.remove_one-pos-2.ensures.place_after, c.remove_one-pos-2.ensures.counts) _ _ _
+    (omega arith) (c.remove_one-2.ensures.place_after, c.remove_one-2.ensures.counts)).0

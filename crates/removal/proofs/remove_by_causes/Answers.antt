@@ -3,7 +3,7 @@ use borrow.Author.Rules.{rules}
 use mathlib.Core.Path.{sym, ◌∙◌}
 use Prim.Native.Nat.{◌<◌}
 use native.Mathlib.Omega.{arith}
-use Rattle.removal.proofs.RemovalLaws.{removing-start, removing-turn, removing-past, removing-over, removing-room, left-start, left-few, left-on, left_here, left_over}
+use Rattle.removal.proofs.RemovalLaws.{removing-start, removing-turn, removing-past, removing-over, left-start, left-few, left-on, left_here, left_over}
 use Rattle.removal.proofs.remove_by_causes.Goals as goal
 
 pub loop-rest-init : goal.loop-rest-init
@@ -17,29 +17,20 @@ loop-rest-preserved-in_default c =
     let few : c.loop-rest.n < 16 = let i = c.loop-rest.invariant in
     left-few i.1 i.0.few c.loop-rest-test.true in
     let i = c.loop-rest.invariant in (
-      removing-past _ i.0 few (left_here i.1 _ ∙ sym c.verdict_by-found.ensures ∙ c.in_default.is),
+      removing-past _ i.0 few (left_here i.1 _ ∙ sym c.verdict_by.ensures ∙ c.in_default.is),
       left-on i.1 few,
     )
-
-pub remove_place-pos-requires : goal.remove_place-pos-requires
-remove_place-pos-requires c =
-    let few : c.loop-rest.n < 16 = let i = c.loop-rest.invariant in
-    left-few i.1 i.0.few c.loop-rest-test.true in
-    few
 
 pub loop-rest-preserved : goal.loop-rest-preserved
 loop-rest-preserved c =
     let few : c.loop-rest.n < 16 = let i = c.loop-rest.invariant in
     left-few i.1 i.0.few c.loop-rest-test.true in
     let i = c.loop-rest.invariant in (
-      removing-turn _ i.0 _ _ _ _ few (left_here i.1 _ ∙ sym c.verdict_by-found.ensures ∙ c.in-Some.is) (omega arith) (c.remove_place-pos.ensures.result_after, c.remove_place-pos.ensures.counts),
+      removing-turn _ i.0 _ _ _ _ few (left_here i.1 _ ∙ sym c.verdict_by.ensures ∙ c.in-Some.is) (omega arith) (c.remove_one-pos.ensures.place_after, c.remove_one-pos.ensures.counts),
       left-on i.1 few,
     )
 
-pub shape_of-out : goal.shape_of-out
-shape_of-out c = removing-room _ c.loop-rest.invariant.0
-
-pub returns : goal.returns
-returns c =
+pub returns-clause-result_after : goal.returns-clause-result_after
+returns-clause-result_after c =
     let i = c.loop-rest.invariant in
-    record { result_after = (removing-over _ i.0 (left_over i.1 (omega arith))).0; counts = (removing-over _ i.0 (left_over i.1 (omega arith))).1 }
+    (removing-over _ i.0 (left_over i.1 (omega arith))).0

@@ -1,8 +1,7 @@
 -- `removal::remove_of` meets its contract.
 use native.Mathlib.Omega.{arith}
-use mathlib.Core.Path.{sym, ◌∙◌}
 use Rattle.rules.specs.Removal.{remove_of}
-use Rattle.removal.proofs.RemovalLaws.{removing-start, removing-turn, removing-past, removing-end, removing-room, by-parent, not-parent}
+use Rattle.removal.proofs.RemovalLaws.{removing-start, removing-turn, removing-past, removing-end, by-parent, not-parent}
 use Rattle.removal.proofs.remove_of.Goals as goal
 
 pub loop-n-init : goal.loop-n-init
@@ -15,11 +14,8 @@ loop-n-preserved-then-l-parent c =
 pub loop-n-preserved : goal.loop-n-preserved
 loop-n-preserved c =
     removing-turn _ c.loop-n.invariant _ _ _ _ c.loop-n-test.true (by-parent _ _ c.legging_at-l.ensures c.if-l-parent.false) (omega arith)
-    (c.remove_place-pos.ensures.result_after, c.remove_place-pos.ensures.counts)
+    (c.remove_one-pos.ensures.place_after, c.remove_one-pos.ensures.counts)
 
-pub shape_of-out : goal.shape_of-out
-shape_of-out c = removing-room _ c.loop-n.invariant
-
-pub returns : goal.returns
+pub returns-clause-result_after : goal.returns-clause-result_after
 unfolding remove_of
-returns c = record { result_after = (removing-end _ c.loop-n.invariant c.loop-n-test.false).0; counts = (removing-end _ c.loop-n.invariant c.loop-n-test.false).1 }
+returns-clause-result_after c = (removing-end _ c.loop-n.invariant c.loop-n-test.false).0

@@ -1,4 +1,3 @@
-use Prim.Native.Nat.{◌-◌}
 use lib.Dec.{eqb}
 use Rattle.rules.specs.Removal.{fail_if}
 use Rattle.removal.proofs.RemovalLaws.{Removing}
@@ -6,6 +5,3 @@ use Rattle.removal.proofs.remove_of.Given as goal
 
 abbrev pub invariant-loop-n : goal.invariant-loop-n
 invariant-loop-n m = Removing (λ k l. fail_if (eqb l.parent m.parent) m.cause) m.initial.numbers m.initial.out m.at m.numbers m.out m.pos m.n
-
-abbrev pub decreases-loop-n : goal.decreases-loop-n
-decreases-loop-n l = 16 - l.n

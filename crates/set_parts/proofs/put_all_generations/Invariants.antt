@@ -1,4 +1,3 @@
-use Prim.Native.Nat.{◌-◌}
 use lib.ListN.{drop}
 use Rattle.places.specs.Layout.{venue_of}
 use Rattle.sets.specs.Set.{generation_records, joined}
@@ -7,6 +6,3 @@ use Rattle.set_parts.proofs.put_all_generations.Given as goal
 
 abbrev pub invariant-loop-s : goal.invariant-loop-s
 invariant-loop-s l = Left (joined (generation_records 0 (venue_of l.numbers).generations)) (joined (generation_records l.s (drop l.s (venue_of l.numbers).generations))) l.initial.out l.at l.out l.pos
-
-abbrev pub decreases-loop-s : goal.decreases-loop-s
-decreases-loop-s l = 8 - l.s

@@ -10,6 +10,3 @@ use Rattle.set_parts.proofs.put_editions.Given as goal
 abbrev pub invariant-loop-i : goal.invariant-loop-i
 invariant-loop-i l = Left (joined (map edition_record (keep holds_edition (venue_of l.numbers).editions)))
     (joined (map edition_record (keep holds_edition (upto (edition_in l.numbers) l.i (32 - l.i))))) l.initial.out l.at l.out l.pos
-
-abbrev pub decreases-loop-i : goal.decreases-loop-i
-decreases-loop-i l = 32 - l.i

@@ -1,5 +1,5 @@
 -- `set_parts::put_generations` meets its contract.
-use mathlib.Core.Path.{refl, ap}
+use mathlib.Core.Path.{ap}
 use Prim.Native.Nat.{ℕ}
 use native.Mathlib.Omega.{arith}
 use Rattle.rules.specs.Base.{held}
@@ -8,12 +8,9 @@ use Rattle.places.specs.Layout.{venue_of}
 use Rattle.places.proofs.Generations.{generations-twenty}
 use Rattle.sets.specs.Set.{generation_record}
 use Rattle.set_parts.specs.Parts.{record_if}
-use Rattle.set_parts.proofs.SetMemoryLaws.{adds_same, left-next, left-none, left-room}
+use Rattle.set_parts.proofs.SetMemoryLaws.{adds_same, left-next, left-none}
 use Rattle.set_parts.proofs.PartsLaws.{dropped-next, dropped-none}
 use Rattle.set_parts.proofs.put_generations.Goals as goal
-
-pub loop-k-init : goal.loop-k-init
-loop-k-init c = refl
 
 pub loop-k-preserved : goal.loop-k-preserved
 loop-k-preserved c =
@@ -21,9 +18,6 @@ loop-k-preserved c =
     (dropped-next (generation_record c.args.s) held (generations_of (venue_of c.args.numbers.now) c.args.s) 0 _
     (omega (arith, generations-twenty c.args.numbers.now c.args.s)))
     (adds_same _ _ _ _ c.put_generation-pos.ensures (ap (λ (n : ℕ). record_if (held n) (generation_record c.args.s n)) c.generation_at-number.ensures))
-
-pub shape_of-out : goal.shape_of-out
-shape_of-out c = left-room _ _ _ _ _ _ c.loop-k.invariant
 
 pub returns : goal.returns
 returns c = left-none _ _ _ _ _ _ c.loop-k.invariant

@@ -1,5 +1,4 @@
 use mathlib.Core.List.{map}
-use Prim.Native.Nat.{◌-◌}
 use lib.ListN.{drop}
 use Rattle.rules.specs.Base.{held, keep}
 use Rattle.rules.specs.Generation.{generations_of}
@@ -11,6 +10,3 @@ use Rattle.set_parts.proofs.put_generations.Given as goal
 abbrev pub invariant-loop-k : goal.invariant-loop-k
 invariant-loop-k l = Left (joined (map (generation_record l.s) (keep held (generations_of (venue_of l.numbers) l.s))))
     (joined (map (generation_record l.s) (keep held (drop l.k (generations_of (venue_of l.numbers) l.s))))) l.initial.out l.at l.out l.pos
-
-abbrev pub decreases-loop-k : goal.decreases-loop-k
-decreases-loop-k l = 20 - l.k

@@ -2,7 +2,7 @@
 use mathlib.Core.Path.{refl}
 use native.Mathlib.Omega.{arith}
 use Rattle.places.specs.Layout.{venue_of}
-use Rattle.set_parts.proofs.SetMemoryLaws.{left-next, left-none, left-room}
+use Rattle.set_parts.proofs.SetMemoryLaws.{left-next, left-none}
 use Rattle.set_parts.proofs.PartsLaws.{leggings-next, leggings-none}
 use Rattle.set_parts.proofs.put_leggings.Goals as goal
 
@@ -12,9 +12,6 @@ loop-s-init c = refl
 
 pub loop-s-preserved : goal.loop-s-preserved
 loop-s-preserved c = left-next _ _ _ _ _ _ _ _ _ _ c.loop-s.invariant (leggings-next _ _ (omega arith)) c.put_sides-pos.ensures
-
-pub shape_of-out : goal.shape_of-out
-shape_of-out c = left-room _ _ _ _ _ _ c.loop-s.invariant
 
 pub returns : goal.returns
 unfolding venue_of

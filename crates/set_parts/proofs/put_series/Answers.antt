@@ -6,7 +6,7 @@ use Rattle.rules.specs.declared.Listed.{Listed}
 use Rattle.rules.specs.declared.Message.TheVariants.{Away, Status}
 use Rattle.rules.specs.Messages.{encode_message}
 use Rattle.places.specs.Layout.{venue_of}
-use Rattle.set_parts.proofs.SetMemoryLaws.{adds_same, left-next, left-none, left-room}
+use Rattle.set_parts.proofs.SetMemoryLaws.{adds_same, left-next, left-none}
 use Rattle.set_parts.proofs.PartsLaws.{series-next, series-none}
 use Rattle.set_parts.proofs.put_series.Goals as goal
 
@@ -20,9 +20,6 @@ loop-s-preserved c = left-next _ _ _ _ _ _ _ _ _ _ c.loop-s.invariant (series-ne
     (ap (λ (x : Listed). encode_message (Status c.loop-s.s x.status) ++ encode_message
     (Away c.loop-s.s x.bid x.offer))
     c.listed_at-x.ensures))
-
-pub shape_of-out : goal.shape_of-out
-shape_of-out c = left-room _ _ _ _ _ _ c.loop-s.invariant
 
 pub returns : goal.returns
 unfolding venue_of

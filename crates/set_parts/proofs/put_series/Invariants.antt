@@ -6,6 +6,3 @@ use Rattle.set_parts.proofs.put_series.Given as goal
 
 abbrev pub invariant-loop-s : goal.invariant-loop-s
 invariant-loop-s l = Left (joined (series_records 0 (venue_of l.numbers).series)) (joined (series_records l.s (upto (listed_in l.numbers) l.s (8 - l.s)))) l.initial.out l.at l.out l.pos
-
-abbrev pub decreases-loop-s : goal.decreases-loop-s
-decreases-loop-s l = 8 - l.s

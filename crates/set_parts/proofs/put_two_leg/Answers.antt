@@ -2,30 +2,24 @@
 use mathlib.Core.Path.{ap, ◌∙◌}
 use mathlib.Core.List.{List, [], ◌∷◌, ◌++◌}
 use Prim.Native.Nat.{ℕ}
-use mir.Syntax.{w32, w64}
-use mir.Val.{SFits, to_z, of_z}
-use mir.ValLaws.{to_z-of_z}
+use mir.Syntax.{w32}
+use mir.Val.{SFits}
 use borrow.Author.Rules.{rules}
 use Rattle.rules.specs.Bytes.{bytes, u32, i32}
 use Rattle.rules.specs.Messages.{two_leg_fields}
 use Rattle.rules.proofs.Reading.{byte}
 use Rattle.records.specs.Seen.{word_bytes}
-use Rattle.places.proofs.Limits.{number-cast, back32}
+use Rattle.rules.proofs.Machine.{back}
+use Rattle.places.proofs.Limits.{back32}
 use Rattle.set_parts.proofs.SetMemoryLaws.{wrote}
 -- the limit is an i32
 use Rattle.set_parts.proofs.put_two_leg.Goals as goal
 
-pub overflow_cast-c : goal.overflow_cast-c
-overflow_cast-c c =
-    let limit-fits : SFits w32 c.args.c.limit = record { sfits = c.struct_told-1.given.1.1.1.1.1.1.0.1 } in
-    number-cast limit-fits
-
 pub returns : goal.returns
 unfolding two_leg_fields bytes word_bytes
 returns c =
-    let limit-fits : SFits w32 c.args.c.limit = record { sfits = c.struct_told-1.given.1.1.1.1.1.1.0.1 } in
-    let f = limit-fits in
-    let n = c.bits.ensures ∙ ap i32 (to_z-of_z w64 (to_z w32 (of_z w32 c.args.c.limit)) (number-cast f) ∙ back32 f) in
+    let f : SFits w32 c.args.c.limit = record { sfits = c.struct_told-1.given.1.1.1.1.1.1.0.1 } in
+    let n = c.bits.ensures ∙ ap i32 (back {z = c.from.result} (record { sfits = c.from.type_inv }) ∙ c.from.ensures ∙ back32 f) in
     wrote _ _ _ _ _ _ c.put_words.ensures
     (rw (
       c.bytes4-i.ensures,

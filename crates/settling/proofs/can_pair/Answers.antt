@@ -11,12 +11,12 @@ returns-then-clear-eq0 c = pair-none _ c.args.c _ _ _ _ _ c.other_clear-clear.en
 pub returns-then-net-limit : goal.returns-then-net-limit
 returns-then-net-limit c =
     let a = c.args in
-    pair_size _ a.c _ _ _ _ _ c.other_clear-clear.ensures
+    rw c.from.ensures (pair_size _ a.c _ _ _ _ _ c.other_clear-clear.ensures
     c.if-clear-eq0.false c.other_leg-other.result
     c.other_leg-other.ensures _ _
     (back {z = c.net_of-net.result} (record { sfits = c.net_of-net.type_inv }) ∙ c.net_of-net.ensures.0) (back {z = c.limit_of-limit.result} (record { sfits = c.limit_of-limit.type_inv }) ∙ c.limit_of-limit.ensures.0) c.if-net-limit.true _
     (size_is (venue_of a.numbers.now) a.taken a.c _ c.requires.taken
-    c.other_level-best.result c.other_level-best.ensures)
+    c.other_level-best.result c.other_level-best.ensures))
 
 pub returns : goal.returns
 returns c =

@@ -7,11 +7,11 @@ use Rattle.settling.proofs.others_stand.Goals as goal
 pub loop-n-init : goal.loop-n-init
 loop-n-init c = (search rules, stand-all _ _)
 
-pub loop-n-preserved-then-place-m : goal.loop-n-preserved-then-place-m
-loop-n-preserved-then-place-m c = (
+pub loop-n-preserved-then-n-m : goal.loop-n-preserved-then-n-m
+loop-n-preserved-then-n-m c = (
   search rules,
   stand-own c.args.numbers.now c.args.m
-      c.loop-n.n c.loop-n-test.true c.if-place-m.true ∙ c.loop-n.invariant.1,
+      c.loop-n.n c.loop-n-test.true c.if-n-m.true ∙ c.loop-n.invariant.1,
 )
 
 pub loop-n-preserved-then-l-eq0 : goal.loop-n-preserved-then-l-eq0
@@ -19,7 +19,7 @@ loop-n-preserved-then-l-eq0 c = (
   search rules,
   stand-free c.args.numbers.now
       c.args.m c.loop-n.n
-      c.loop-n-test.true c.if-place-m.false c.legging_at-l.result
+      c.loop-n-test.true c.if-n-m.false c.legging_at-l.result
       c.legging_at-l.ensures c.if-l-eq0.true
       ∙ c.loop-n.invariant.1,
 )
@@ -30,7 +30,7 @@ loop-n-preserved c = (
   stand-past c.args.numbers.now
       c.args.m
       c.loop-n.n
-      c.loop-n-test.true c.if-place-m.false
+      c.loop-n-test.true c.if-n-m.false
       c.judge.result c.judge.ensures (sym c.is_some.ensures ∙ c.if-is_some.false)
       ∙ c.loop-n.invariant.1,
 )
@@ -40,7 +40,7 @@ returns-then-is_some c =
     stand-fails c.args.numbers.now
     c.args.m
     c.loop-n.n
-    c.loop-n-test.true c.if-place-m.false
+    c.loop-n-test.true c.if-n-m.false
     c.judge.result c.judge.ensures (sym c.is_some.ensures ∙ c.if-is_some.true)
     ∙ c.loop-n.invariant.1
 

@@ -5,14 +5,9 @@ use Rattle.rules.specs.Removal.{remove}
 use Rattle.rules.specs.Standing.{verdict, settle}
 use Rattle.records.specs.Seen.{seen}
 use Rattle.records.specs.Stage.{◌does◌}
-use Rattle.places.proofs.Beside.{counts-on}
 use Rattle.settling.proofs.settle_all.Goals as goal
 
-pub remove_failing-requires : goal.remove_failing-requires
-remove_failing-requires c =
-    c.show_again.ensures.counts.right c.requires
-
-pub returns : goal.returns
+pub returns-clause-result_after : goal.returns-clause-result_after
 unfolding settle
-returns c =
-    record { result_after = c.remove_failing.ensures.result_after ∙ ap (λ (v : Venue). seen c.args.out.now c.args.at does remove (verdict v) v) c.show_again.ensures.numbers_after; counts = counts-on _ _ _ c.show_again.ensures.counts c.remove_failing.ensures.counts }
+returns-clause-result_after c =
+    c.remove_failing.ensures.result_after ∙ ap (λ (v : Venue). seen c.args.out.now c.args.at does remove (verdict v) v) c.show_again.ensures.numbers_after

@@ -5,8 +5,6 @@ use Rattle.places.specs.Layout.{venue_of}
 use Rattle.rules.proofs.Machine.{back}
 use Rattle.rules.specs.Standing.{verdict_of}
 use Rattle.rules.specs.Prices.{in_band}
-use lib.IntN.{nat_abs}
-use native.Mathlib.Omega.{arith}
 use mathlib.Core.Path.{ap, ◌∙◌}
 use Rattle.settling.proofs.test_order.Goals as goal
 
@@ -16,12 +14,6 @@ returns-then-not-displayed_no_worse c = simp (off _ _
     (displayed-is (venue_of c.args.numbers.now) _ _ _ _ _
     (own_is _ c.args.sides c.args.c _ _ c.requires.sides)
     c.displayed_no_worse.ensures) c.if-not-displayed_no_worse.true-raw)
-
-pub in_band-requires : goal.in_band-requires
-in_band-requires c =
-    let p = c.requires in
-    let q = back {z = c.limit_of.result} (record { sfits = c.limit_of.type_inv }) in
-    record { taken = p.sides.taken; legs = p.legs; bound = omega (arith, ap nat_abs q, c.limit_of.ensures.1); figures = p.figures }
 
 pub returns-then-not-in_band : goal.returns-then-not-in_band
 unfolding verdict_of

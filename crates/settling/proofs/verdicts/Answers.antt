@@ -1,10 +1,8 @@
 -- `settling::verdicts` meets its contract.
-use Rattle.settling.proofs.CausesFound.{number_small, causes-none, causes-room, causes-free, causes-on, causes-all}
+use Rattle.settling.proofs.CausesFound.{number_small, causes-room, causes-free, causes-on}
 use native.Mathlib.Omega.{arith}
+use mathlib.Core.Path.{◌∙◌}
 use Rattle.settling.proofs.verdicts.Goals as goal
-
-pub loop-n-init : goal.loop-n-init
-loop-n-init c = causes-none _
 
 pub overflow_mul-causes : goal.overflow_mul-causes
 overflow_mul-causes c = omega (arith, causes-room _ _ _ c.loop-n.invariant c.loop-n-test.true)
@@ -19,7 +17,4 @@ overflow_add-causes c =
 
 pub loop-n-preserved : goal.loop-n-preserved
 loop-n-preserved c =
-    causes-on _ _ _ c.loop-n.invariant c.loop-n-test.true _ c.judge.result c.verdict_number.ensures c.judge.ensures
-
-pub returns : goal.returns
-returns c = causes-all _ _ _ c.loop-n.invariant (omega arith)
+    causes-on _ _ _ c.loop-n.invariant c.loop-n-test.true _ c.judge.result (c.from-causes.ensures ∙ c.verdict_number.ensures) c.judge.ensures

@@ -3,6 +3,3 @@ use Rattle.settling.proofs.verdicts.Given as goal
 
 abbrev pub invariant-loop-n : goal.invariant-loop-n
 invariant-loop-n l = CausesFrom l.numbers l.causes l.n
-
-abbrev pub decreases-loop-n : goal.decreases-loop-n
-decreases-loop-n l = l.n

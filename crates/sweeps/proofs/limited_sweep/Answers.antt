@@ -1,5 +1,4 @@
 -- `sweeps::limited_sweep` meets its contract.
-use mathlib.Core.Path.{◌∙◌}
 use native.Mathlib.Omega.{arith}
 use Rattle.places.proofs.Parts.{complexes-few}
 use Rattle.sweeps.specs.Round.{round_places}
@@ -13,33 +12,12 @@ overflow_add-looked c = omega (arith, c.round_of-round.ensures.within.0, c.round
 pub overflow_cast-looked : goal.overflow_cast-looked
 overflow_cast-looked c = omega (arith, c.round_of-round.ensures.within.0, c.round_of-round.ensures.within.1, complexes-few c.args.numbers.now)
 
-pub work_round-worked-requires : goal.work_round-worked-requires
-work_round-worked-requires c =
-    record {
-      right = c.put_reached.ensures.counts.right c.requires.dense.right;
-      above = omega (arith, c.round_of-round.ensures.within.0, c.put_reached.ensures.counts.complexes);
-      others = omega (arith, c.round_of-round.ensures.within.1, c.put_reached.ensures.counts.complexes);
-    }
-
-pub settle_all-settled-requires : goal.settle_all-settled-requires
-settle_all-settled-requires c =
-    c.work_round-worked.ensures.counts.right (c.put_reached.ensures.counts.right c.requires.dense.right)
-
-pub generate_round-end-requires : goal.generate_round-end-requires
-generate_round-end-requires c =
-    let n = c.settle_all-settled.ensures.counts.complexes ∙ c.work_round-worked.ensures.counts.complexes ∙ c.put_reached.ensures.counts.complexes in
-    record {
-      right = c.settle_all-settled.ensures.counts.right (c.work_round-worked.ensures.counts.right (c.put_reached.ensures.counts.right c.requires.dense.right));
-      above = omega (arith, c.round_of-round.ensures.within.0, n);
-      others = omega (arith, c.round_of-round.ensures.within.1, n);
-    }
-
 pub returns : goal.returns
 returns c =
     let n = round-examined _ _ c.round_of-round.result c.round_of-round.ensures.result_value in record {
       at_after = limited-law _ _ _ _ (round_places c.round_of-round.result) _ _ _ _ _ _ _ _ _ _ _ _ _ _ _ c.round_of-round.ensures.result_value n
           c.last_looked-id.ensures c.put_reached.ensures.numbers_after
-          c.emit_looked-told.ensures c.work_round-worked.ensures.result_after c.settle_all-settled.ensures.result_after c.generate_round-end.ensures.result_after;
-      counts = counts-on _ _ _ (counts-on _ _ _ (counts-on _ _ _ c.put_reached.ensures.counts c.work_round-worked.ensures.counts) c.settle_all-settled.ensures.counts) c.generate_round-end.ensures.counts;
+          c.emit_looked-told.ensures c.at_round-worked.ensures.result_after c.settle_all-settled.ensures.result_after c.at_round-end.ensures.result_after;
+      counts = counts-on _ _ _ (counts-on _ _ _ (counts-on _ _ _ c.put_reached.ensures.counts c.at_round-worked.ensures.counts) c.settle_all-settled.ensures.counts) c.at_round-end.ensures.counts;
       looked = n;
     }

@@ -3,7 +3,6 @@ use mathlib.Core.Path.{sym, ◌∙◌}
 use native.Mathlib.Omega.{arith}
 use Rattle.rules.proofs.Machine.{back}
 use Rattle.places.proofs.Parts.{complexes-few, complex-at}
-use Rattle.places.proofs.Beside.{counts-on}
 use Rattle.work.proofs.LegInLaws.{leg-in-law}
 use Rattle.work.proofs.leg_in.Goals as goal
 
@@ -11,20 +10,9 @@ pub complex_at-c-requires : goal.complex_at-c-requires
 complex_at-c-requires c = let z = complexes-few c.args.numbers.now in
     omega (arith, c.requires.in_use)
 
-pub trade_at_price-first-requires : goal.trade_at_price-first-requires
-trade_at_price-first-requires c = let p = c.requires in p.right
-
-pub trade_at_price-second-requires : goal.trade_at_price-second-requires
-trade_at_price-second-requires c =
-    let p = c.requires in
-    c.trade_at_price-first.ensures.counts.right p.right
-
-pub returns : goal.returns
-returns c =
+pub returns-clause-result_after : goal.returns-clause-result_after
+returns-clause-result_after c =
     let a = c.args in
-    record {
-      result_after = leg-in-law a.i a.a a.p a.k _ _ _ _ _ _ _ _ _ _ _ _ _ _ _ _ (c.complex_at-c.ensures ∙ sym (complex-at a.numbers.now a.i c.requires.in_use))
-          (back {z = c.net_of-net.result} (record { sfits = c.net_of-net.type_inv }) ∙ c.net_of-net.ensures.0) c.contracts-one.ensures c.contracts-two.ensures c.trade_at_price-first.ensures.result_after
-          c.trade_at_price-second.ensures.result_after c.pair_off.ensures.result_after;
-      counts = counts-on _ _ _ (counts-on _ _ _ c.trade_at_price-first.ensures.counts c.trade_at_price-second.ensures.counts) c.pair_off.ensures.counts;
-    }
+    leg-in-law a.i a.a a.p a.k _ _ _ _ _ _ _ _ _ _ _ _ _ _ _ _ (c.complex_at-c.ensures ∙ sym (complex-at a.numbers.now a.i c.requires.in_use))
+    (back {z = c.net_of-net.result} (record { sfits = c.net_of-net.type_inv }) ∙ c.net_of-net.ensures.0) c.contracts-one.ensures c.contracts-two.ensures c.trade_at_price-first.ensures.result_after
+    c.trade_at_price-second.ensures.result_after c.pair_off.ensures.result_after
