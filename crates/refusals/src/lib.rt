@@ -92,13 +92,11 @@ pub fn rests(numbers: &Numbers, id: u32) -> bool
 fn is_above(numbers: &Numbers, edition: u32) -> bool
     ensures { result ≡ all (λ k. ltb k.edition edition) (venue_of numbers.now).editions }
 {
-    let mut i: usize = 0;
-    while i < 32 {
+    for i in 0..32 {
         let k = places::edition_at(numbers, i);
         if edition <= k.edition {
             return false;
         }
-        i += 1;
     }
     true
 }
@@ -118,13 +116,11 @@ fn no_order_in(numbers: &Numbers, s: u8) -> bool
     ensures { result ≡ all (λ o. not (held o.quantity && eqb o.series s)) (venue_of numbers.now).regular }
 {
     let n = places::regulars_used(numbers);
-    let mut i: usize = 0;
-    while i < n {
+    for i in 0..n {
         let o = places::regular_at(numbers, i);
         if rests_in(o, s) {
             return false;
         }
-        i += 1;
     }
     true
 }
@@ -147,13 +143,11 @@ fn no_leg_in(numbers: &Numbers, s: u8) -> bool
     ensures { result ≡ all (λ c. not (held c.quantity && (eqb c.series1 s || eqb c.series2 s))) (venue_of numbers.now).complex }
 {
     let n = places::complexes_used(numbers);
-    let mut i: usize = 0;
-    while i < n {
+    for i in 0..n {
         let c = places::complex_at(numbers, i);
         if has_leg_in(c, s) {
             return false;
         }
-        i += 1;
     }
     true
 }
