@@ -36,13 +36,11 @@ fn on_increments(numbers: &Numbers) -> bool
     ensures { result ≡ on_increments (venue_of numbers.now) }
 {
     let n = places::regulars_used(numbers);
-    let mut i: usize = 0;
-    while i < n {
+    for i in 0..n {
         let o = places::regular_at(numbers, i);
         if !on_increment(numbers, o) {
             return false;
         }
-        i += 1;
     }
     true
 }
@@ -65,13 +63,11 @@ fn ids_distinct(numbers: &Numbers) -> bool
     ensures { result ≡ ids_distinct (venue_of numbers.now) }
 {
     let n = places::regulars_used(numbers);
-    let mut i: usize = 0;
-    while i < n {
+    for i in 0..n {
         let o = places::regular_at(numbers, i);
         if !is_alone(numbers, o) {
             return false;
         }
-        i += 1;
     }
     true
 }
@@ -97,12 +93,10 @@ fn all_apart(numbers: &Numbers) -> bool
     requires { Right numbers.now }
     ensures { result ≡ all (apart (venue_of numbers.now)) eight }
 {
-    let mut s: u8 = 0;
-    while s < 8 {
+    for s in 0..8 {
         if !is_apart(numbers, s) {
             return false;
         }
-        s += 1;
     }
     true
 }
@@ -196,12 +190,10 @@ fn leggings_sound(numbers: &Numbers, g: [[Level; 2]; 8]) -> bool
     requires { GridReady numbers.now g }
     ensures { result ≡ leggings_sound (venue_of numbers.now) 0 (venue_of numbers.now).legging }
 {
-    let mut n: usize = 0;
-    while n < 16 {
+    for n in 0..16 {
         if !legging_sound(numbers, g, n) {
             return false;
         }
-        n += 1;
     }
     true
 }
@@ -239,13 +231,11 @@ pub fn load_sound(numbers: &mut Numbers, v: Venue) -> bool
 fn follows_editions(numbers: &Numbers, number: u32) -> bool
     ensures { result ≡ all (λ e. ltb e.message number) (venue_of numbers.now).editions }
 {
-    let mut i: usize = 0;
-    while i < 32 {
+    for i in 0..32 {
         let e = places::edition_at(numbers, i);
         if number <= e.message {
             return false;
         }
-        i += 1;
     }
     true
 }
@@ -255,12 +245,10 @@ fn follows_series(numbers: &Numbers, s: usize, number: u32) -> bool
     requires { s < 8 }
     ensures { result ≡ all (λ n. ltb n number) (generations_of (venue_of numbers.now) s) }
 {
-    let mut k: usize = 0;
-    while k < 20 {
+    for k in 0..20 {
         if number <= places::generation_at(numbers, s, k) {
             return false;
         }
-        k += 1;
     }
     true
 }
@@ -269,12 +257,10 @@ fn follows_series(numbers: &Numbers, s: usize, number: u32) -> bool
 fn follows_generations(numbers: &Numbers, number: u32) -> bool
     ensures { result ≡ all (λ g. all (λ n. ltb n number) g.messages) (venue_of numbers.now).generations }
 {
-    let mut s: usize = 0;
-    while s < 8 {
+    for s in 0..8 {
         if !follows_series(numbers, s, number) {
             return false;
         }
-        s += 1;
     }
     true
 }
