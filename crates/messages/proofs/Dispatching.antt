@@ -17,7 +17,8 @@ use Rattle.rules.specs.Words.{one_to_one}
 use Rattle.rules.specs.Bytes.{u8_at, u16_at, kind_field}
 use Rattle.rules.specs.Messages.{length_of, two_leg_at, message_of}
 use Rattle.rules.specs.Effects.{nothing}
-use Rattle.rules.specs.Refusals.{is_kind, in_range, equal_ratios, decoded, refusal_of, refusal}
+use Rattle.rules.specs.declared.Refusal.{Refusal}
+use Rattle.rules.specs.Refusals.{refusal_number, is_kind, in_range, equal_ratios, decoded, refusal_of, refusal}
 use Rattle.rules.specs.Step.{accept, answered, step}
 use Rattle.rules.proofs.Ranges.{inside}
 use Rattle.rules.proofs.RefusalsLaws.{decoded-by}
@@ -66,8 +67,10 @@ module _ (v : Venue) (number : ℕ) (bs : List ℕ) where
   ranged-step f m true false p h q = step-taken m (taken bs m (sym p) f.whole (inside 1 11 (u16_at bs 2) f.low f.high) f.size h q)
 
   module _ (l : List ℕ) (r : Stepped) (b o : List ℕ) where
-    pub torn-steps : (x : ℕ) → Refused x ≡ decoded bs → Steps (answered number x (nothing v)) l r b o → Steps (step v number bs) l r b o
-    torn-steps x e = steps-as _ _ l r b o (step-refused x e)
+    -- the refusal f of the bytes' length or kind, whose number is x
+    pub torn-steps : (f : Refusal) (x : ℕ) → x ≡ refusal_number f → Refused (refusal_number f) ≡ decoded bs →
+        Steps (answered number x (nothing v)) l r b o → Steps (step v number bs) l r b o
+    torn-steps f x p e = steps-as _ _ l r b o (ap (λ (y : ℕ). answered number y (nothing v)) p ∙ step-refused (refusal_number f) e)
 
     pub kind-steps : Framed bs → (m : Message) (t e : Bool) → message_of bs ≡ m → in_range (u16_at bs 2) m ≡ t → equal_ratios bs ≡ e →
         Steps (ranged_by v number t e m) l r b o → Steps (step v number bs) l r b o
