@@ -27,7 +27,7 @@ fn on_increment(numbers: &Numbers, o: Regular) -> bool
         return true;
     }
     let increment = prices::increment_of(numbers, o.series);
-    o.price % (increment as u32) == 0
+    o.price % u32::from(increment) == 0
 }
 
 // Every resting regular order's price is a multiple of its series' increment in force.
@@ -105,13 +105,7 @@ fn all_apart(numbers: &Numbers) -> bool
 fn blank_legging(l: Legging) -> bool
     ensures { result ≡ blank_legging l }
 {
-    if l.parent != 0 {
-        return false;
-    }
-    if l.price != 0 {
-        return false;
-    }
-    l.quantity == 0
+    l == rules::NO_LEGGING
 }
 
 // A held legging place's fields are in range.
