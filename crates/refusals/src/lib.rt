@@ -23,7 +23,7 @@ fn off_increment(numbers: &Numbers, o: Regular) -> bool
     ensures { result ≡ off_increment (venue_of numbers.now) (Order o) }
 {
     let increment = prices::increment_of(numbers, o.series);
-    o.price % (increment as u32) != 0
+    o.price % u32::from(increment) != 0
 }
 
 // The refusal of an order with its fields in their ranges, if it meets one.
