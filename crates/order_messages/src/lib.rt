@@ -43,7 +43,7 @@ fn enter_complex(numbers: &mut Numbers, number: u32, c: Complex, out: &mut [u8],
 
 // By kind ---------------------------------------------------------------------------------------
 
-// 1 and 9: an order.
+// 1 and 9: an order. In each step the answer is written first and set at the end: what stands between, as a closure, would have to say all that it ensures.
 pub fn order_step(numbers: &mut Numbers, number: u32, o: Regular, out: &mut [u8]) -> Stepped
     requires { SoundOrder numbers.old o }
     ensures { Steps (ranged_by (venue_of numbers.old) number (regular_in_range o) false (Order o)) out.old result numbers.new out.new }

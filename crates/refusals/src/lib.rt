@@ -138,7 +138,7 @@ fn has_leg_in(c: Complex, s: u8) -> bool
     c.series2 == s
 }
 
-// No resting complex order has a leg in a series.
+// No resting complex order has a leg in a series. A pass that took its table and its test as closures would have to say more of both than this loop does.
 fn no_leg_in(numbers: &Numbers, s: u8) -> bool
     ensures { result ≡ all (λ c. not (held c.quantity && (eqb c.series1 s || eqb c.series2 s))) (venue_of numbers.now).complex }
 {
