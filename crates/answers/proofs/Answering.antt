@@ -4,6 +4,7 @@ use mathlib.Core.Path.{◌≡◌, sym, ap, ap₂, ◌∙◌}
 use mathlib.Core.Bool.{Bool, true, false}
 use mathlib.Core.List.{List, [], ◌∷◌}
 use Prim.Native.Nat.{ℕ}
+use native.Mathlib.Omega.{arith}
 use lib.Count.{ones}
 use lib.Dec.{eqb}
 use borrow.Author.Tests.{ne_eqb}
@@ -13,7 +14,10 @@ use Rattle.rules.specs.declared.Message.{Message}
 use Rattle.rules.specs.Records.{answer}
 use Rattle.rules.specs.Effects.{Effect, nothing}
 use Rattle.rules.specs.Places.{close_gaps}
-use Rattle.rules.specs.Refusals.{refusal_of}
+use Rattle.rules.specs.declared.Refusal.{Refusal}
+use Rattle.rules.specs.declared.Refusal.TheVariants.{Torn, NoKind, WrongLength, OutOfRange, IdTooLow, OnClosed, Full, Unknown}
+use Rattle.rules.specs.declared.Refusal.TheVariants.{EditionTooLow, InUse, NoEditionLeft, EqualRatios}
+use Rattle.rules.specs.Refusals.{refusal_number, refusal_of}
 use Rattle.rules.specs.Step.{perform, accept, mask, filled, StepOutcome, answered}
 use Rattle.records.specs.Seen.{Seen, seen, ◌writes◌}
 use Rattle.records.specs.Stage.{stage, ◌does◌}
@@ -64,6 +68,21 @@ answer-set ls m o number x c a b q =
 pub steps-as : (a c : StepOutcome) (l : List ℕ) (r : Stepped) (b o : List ℕ) → a ≡ c → Steps a l r b o → Steps c l r b o
 steps-as a c l r b o e s = rw e at s
 
+-- no refusal has the number 0
+pub number-above : (f : Refusal) → refusal_number f ≡ 0 → ⊥
+number-above Torn h = omega arith
+number-above NoKind h = omega arith
+number-above WrongLength h = omega arith
+number-above OutOfRange h = omega arith
+number-above IdTooLow h = omega arith
+number-above OnClosed h = omega arith
+number-above Full h = omega arith
+number-above Unknown h = omega arith
+number-above EditionTooLow h = omega arith
+number-above InUse h = omega arith
+number-above NoEditionLeft h = omega arith
+number-above EqualRatios h = omega arith
+
 module _ (v : Venue) (number : ℕ) (m : Message) where
   by-accepted : refusal_of v m ≡ 0 → answered number 0 (accept number m v) ≡ answered_by v number m
   unfolding answered_by
@@ -79,6 +98,11 @@ module _ (v : Venue) (number : ℕ) (m : Message) where
   module _ (l : List ℕ) (r : Stepped) (b o : List ℕ) where
     pub refused-steps : (x : ℕ) → x ≡ refusal_of v m → (x ≡ 0 → ⊥) → Steps (answered number x (nothing v)) l r b o → Steps (answered_by v number m) l r b o
     refused-steps x e n = steps-as _ _ l r b o (by-refused x e n)
+
+    -- the refusal f that a test finds, whose number is x
+    pub found-steps : (f : Refusal) (x : ℕ) → x ≡ refusal_number f → refusal_number f ≡ refusal_of v m → Steps (answered number x (nothing v)) l r b o →
+        Steps (answered_by v number m) l r b o
+    found-steps f x p q = refused-steps x (p ∙ q) (λ z. number-above f (sym p ∙ z))
 
     pub done-steps : (b₁ k n : List ℕ) (i end : ℕ) → refusal_of v m ≡ 0 → seen k i ≡ seen l 0 writes (answer number 0 0 0 ∷ []) →
         stage (venue_of b₁) n end ≡ seen k i does perform number m v → Finishes number b₁ n end r b o → Steps (answered_by v number m) l r b o

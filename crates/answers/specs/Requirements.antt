@@ -1,8 +1,8 @@
 -- What the functions require, each part by its name.
-use Rattle.std.specs.Prelude.{◌≡◌, true, List, ℕ, length}
+use Rattle.std.specs.Prelude.{◌≡◌, true, List, ℕ}
 use Rattle.rules.specs.Sound.{shows_fully}
 use Rattle.rules.specs.Refusals.{complex_in_range}
-use Rattle.places.specs.Layout.{size, Dense, venue_of}
+use Rattle.places.specs.Layout.{Dense, venue_of}
 use Rattle.rules.specs.declared.Regular.{Regular}
 use Rattle.rules.specs.declared.Complex.{Complex}
 use Rattle.rules.specs.Words.{one_to_one}

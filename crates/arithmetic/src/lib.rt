@@ -10,7 +10,7 @@ ghost use Rattle.rules.specs.Prices.{shown_size, displayed_price, weighed, near_
 ghost use Rattle.rules.specs.Standing.{verdict_number};
 ghost use Rattle.rules.specs.Refusals.{decoded_number, refusal_number};
 
-use rules::{Cause, Complex, Decoded, Listed, Message, Refusal, Regular, Venue};
+use rules::{Cause, Complex, Listed, Message, Refusal, Regular, Venue};
 
 // The venue with no orders, all series open and no away prices.
 pub fn fresh() -> Venue
@@ -239,12 +239,12 @@ pub fn verdict_number(verdict: Option<Cause>) -> u8
 }
 
 // The refusal, 1 to 4 or 14, that a message's bytes meet; 0 if none.
-pub fn decoded_number(decoded: Decoded) -> u8
+pub fn decoded_number(decoded: Result<Message, Refusal>) -> u8
     ensures { result ≡ decoded_number decoded }
 {
     match decoded {
-        Decoded::Taken(_) => 0,
-        Decoded::Refused(number) => number,
+        Ok(_) => 0,
+        Err(refusal) => refusal_number(refusal),
     }
 }
 

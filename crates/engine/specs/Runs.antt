@@ -5,7 +5,7 @@ use Rattle.rules.specs.Records.{Report, encode_all}
 use Rattle.rules.specs.declared.Returned.{Returned}
 use Rattle.rules.specs.Calls.{Outcome, Call, ends, run_from}
 use Rattle.demands.specs.Soundness.{SoundAt}
-use Rattle.places.specs.Layout.{size, venue_of, Dense}
+use Rattle.places.specs.Layout.{venue_of, Dense}
 use Rattle.reader.specs.declared.Head.{Head}
 use Rattle.reader.specs.Head.{head_at}
 use Rattle.engine.specs.declared.RunProgress.{RunProgress}

@@ -74,11 +74,8 @@ pub fn run(messages: &[u8], report: &mut [u8]) -> Returned
         at: 0,
         written: 0,
     };
-    loop {
+    while t.at < messages.len() {
         let head = reader::message_head(messages, t.at);
-        if let Head::End = head {
-            break;
-        }
         t = advance(t, head, &mut numbers, messages, report);
         if t.number != 0 {
             break;

@@ -1,7 +1,7 @@
 -- Where the handing out of two lines stands, and what a turn of it leaves.
 use Rattle.std.specs.Prelude.{◌≡◌, List, true, ℕ, suc, ◌+◌, ◌-◌, ◌≤◌, ◌<◌, length, drop}
 use Rattle.demands.specs.Soundness.{SoundAt}
-use Rattle.places.specs.Layout.{size, venue_of, Dense}
+use Rattle.places.specs.Layout.{venue_of, Dense}
 use Rattle.feed.specs.Feed.{Part, next}
 use Rattle.feed.specs.Cursors.{ready, up_next, advance_of}
 use Rattle.feed.specs.Turns.{fed_from}

@@ -83,10 +83,7 @@ fn feed_lines<'a>(main: &'a [u8], spare: &'a [u8], report: &mut [u8]) -> Returne
         spare: 0,
         written: 0,
     };
-    loop {
-        if feed::at_ends(main, t.main, spare, t.spare) {
-            break;
-        }
+    while !feed::at_ends(main, t.main, spare, t.spare) {
         t = hand_out(t, &mut numbers, main, spare, report);
         if t.number != 0 {
             break;

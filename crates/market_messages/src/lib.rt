@@ -75,7 +75,7 @@ fn set_figure(
 
 // By kind ---------------------------------------------------------------------------------------
 
-// 4: away prices.
+// 4: away prices. The steps share no frame that takes a closure, for the reason that order_step tells (order_messages).
 pub fn away_step(
     numbers: &mut Numbers,
     number: u32,
@@ -134,9 +134,8 @@ pub fn increment_step(
         return answers::refuse(numbers, number, 4, out);
     }
     let used = !refusals::is_idle(numbers, s);
-    let refused = refusals::edition_refusal(numbers, edition, used);
-    if refused != 0 {
-        return answers::refuse(numbers, number, refused, out);
+    if let Err(refusal) = refusals::edition_refusal(numbers, edition, used) {
+        return answers::refuse(numbers, number, arithmetic::refusal_number(refusal), out);
     }
     let at = records::emit_answer(out, 0, number, 0, 0, 0);
     let end = set_figure(numbers, number, s, x, edition, out, at);
@@ -157,9 +156,8 @@ pub fn percent_step(
     if 50 < x {
         return answers::refuse(numbers, number, 4, out);
     }
-    let refused = refusals::edition_refusal(numbers, edition, false);
-    if refused != 0 {
-        return answers::refuse(numbers, number, refused, out);
+    if let Err(refusal) = refusals::edition_refusal(numbers, edition, false) {
+        return answers::refuse(numbers, number, arithmetic::refusal_number(refusal), out);
     }
     let at = records::emit_answer(out, 0, number, 0, 0, 0);
     let end = set_figure(numbers, number, 8, x, edition, out, at);

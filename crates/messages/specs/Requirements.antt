@@ -1,6 +1,6 @@
 -- What the functions require, each part by its name.
-use Rattle.std.specs.Prelude.{◌≡◌, List, ℕ, ◌<◌, ◌≤◌, length}
-use Rattle.places.specs.Layout.{size, Dense, venue_of}
+use Rattle.std.specs.Prelude.{◌≡◌, List, ℕ, ◌<◌, ◌≤◌}
+use Rattle.places.specs.Layout.{Dense, venue_of}
 use Rattle.rules.specs.Bytes.{u16_at}
 use Rattle.messages.specs.Frames.{Framed}
 use Rattle.demands.specs.Soundness.{SoundVenue}

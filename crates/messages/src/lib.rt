@@ -12,34 +12,35 @@ ghost use Rattle.messages.specs.Requirements.{FirstKind, MarketKind, LaterKind};
 
 use answers::Stepped;
 use places::Numbers;
+use rules::Refusal;
 
 // One message ---------------------------------------------------------------------------------
 
-// The first of the refusals 1 to 3 that the bytes meet; 0 where they meet none.
-fn frame_refusal(message: &[u8]) -> u8
+// The first of the refusals 1 to 3 that the bytes meet, if they meet one.
+fn frame_refusal(message: &[u8]) -> Result<(), Refusal>
     ensures { FrameRefusal message.now result }
 {
     if message.len() < 4 {
-        return 1;
+        return Err(Refusal::Torn);
     }
     let size = wire::half_at(message, 0);
     if size < 4 {
-        return 1;
+        return Err(Refusal::Torn);
     }
     if message.len() < size as usize {
-        return 1;
+        return Err(Refusal::Torn);
     }
     let kind = wire::half_at(message, 2);
     if kind == 0 {
-        return 2;
+        return Err(Refusal::NoKind);
     }
     if 11 < kind {
-        return 2;
+        return Err(Refusal::NoKind);
     }
     if size != arithmetic::length_of(kind) {
-        return 3;
+        return Err(Refusal::WrongLength);
     }
-    0
+    Ok(())
 }
 
 // Kinds 1 to 3.
@@ -133,9 +134,8 @@ pub fn step(numbers: &mut Numbers, number: u32, message: &[u8], out: &mut [u8]) 
     requires { SoundNumbers numbers.old }
     ensures { Steps (step.step (venue_of numbers.old) number message.now) out.old result numbers.new out.new }
 {
-    let refused = frame_refusal(message);
-    if refused != 0 {
-        return answers::refuse(numbers, number, refused, out);
+    if let Err(refusal) = frame_refusal(message) {
+        return answers::refuse(numbers, number, arithmetic::refusal_number(refusal), out);
     }
     let kind = wire::half_at(message, 2);
     if kind <= 3 {

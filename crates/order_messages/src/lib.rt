@@ -43,7 +43,7 @@ fn enter_complex(numbers: &mut Numbers, number: u32, c: Complex, out: &mut [u8],
 
 // By kind ---------------------------------------------------------------------------------------
 
-// 1 and 9: an order.
+// 1 and 9: an order. In each step the answer is written first and set at the end: what stands between, as a closure, would have to say all that it ensures.
 pub fn order_step(numbers: &mut Numbers, number: u32, o: Regular, out: &mut [u8]) -> Stepped
     requires { SoundOrder numbers.old o }
     ensures { Steps (ranged_by (venue_of numbers.old) number (regular_in_range o) false (Order o)) out.old result numbers.new out.new }
@@ -51,9 +51,8 @@ pub fn order_step(numbers: &mut Numbers, number: u32, o: Regular, out: &mut [u8]
     if !wire::regular_in_range(o) {
         return answers::refuse(numbers, number, 4, out);
     }
-    let refused = refusals::order_refusal(numbers, o);
-    if refused != 0 {
-        return answers::refuse(numbers, number, refused, out);
+    if let Err(refusal) = refusals::order_refusal(numbers, o) {
+        return answers::refuse(numbers, number, arithmetic::refusal_number(refusal), out);
     }
     let at = records::emit_answer(out, 0, number, 0, 0, 0);
     let end = enter_order(numbers, o, out, at);
@@ -65,9 +64,8 @@ fn complex_step(numbers: &mut Numbers, number: u32, c: Complex, out: &mut [u8]) 
     requires { SoundComplex numbers.old c }
     ensures { Steps (answered_by (venue_of numbers.old) number (TwoLeg c)) out.old result numbers.new out.new }
 {
-    let refused = refusals::complex_refusal(numbers, c);
-    if refused != 0 {
-        return answers::refuse(numbers, number, refused, out);
+    if let Err(refusal) = refusals::complex_refusal(numbers, c) {
+        return answers::refuse(numbers, number, arithmetic::refusal_number(refusal), out);
     }
     let at = records::emit_answer(out, 0, number, 0, 0, 0);
     let end = enter_complex(numbers, number, c, out, at);

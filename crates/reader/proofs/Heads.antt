@@ -1,4 +1,5 @@
 -- What stands at a position: each case from what the code has found of the bytes, and what each case says.
+use Rattle.std.specs.Prelude.{Result, Ok, Err}
 use mathlib.Core.Path.{◌≡◌, refl, sym, ap, ◌∙◌}
 use mathlib.Core.Bool.{Bool, true, false, true≢false}
 use mathlib.Core.List.{List}
@@ -8,11 +9,10 @@ use lib.Dec.{leb, eqb}
 use lib.ListN.{length, drop, length-drop}
 use borrow.Author.Tests.{eq-eqb, ne_eqb, leb-true, leb-false}
 use Rattle.rules.specs.declared.Venue.{Venue}
-use Rattle.rules.specs.declared.Decoded.{Decoded}
-use Rattle.rules.specs.declared.Decoded.TheVariants.{Taken, Refused}
+use Rattle.rules.specs.declared.Refusal.{Refusal}
 use Rattle.rules.specs.Bytes.{u16_at, length_field}
 use Rattle.rules.specs.Messages.{message_of}
-use Rattle.rules.specs.Refusals.{torn, decoded, refusal_of, refusal}
+use Rattle.rules.specs.Refusals.{torn, decoded, refusal_of, refusal, refusal_number}
 use Rattle.rules.proofs.RefusalsLaws.{decoded-by, refusal_of-by, whole, whole_in}
 use Rattle.wire.proofs.Numbers.{u16-here}
 use Rattle.reader.specs.declared.Head.TheVariants.{End, Torn, Message}
@@ -51,7 +51,7 @@ module _ (v : Venue) (bs : List ℕ) where
   pub whole-refused : torn bs ≡ false → eqb (refusal v bs) 1 ≡ false
   unfolding refusal
   whole-refused =
-      decoded-by (λ (x : Decoded). torn bs ≡ false → eqb (elim x [ Taken m ↦ refusal_of v m | Refused n ↦ n ]) 1 ≡ false) bs
+      decoded-by (λ (x : Result _ Refusal). torn bs ≡ false → eqb (elim x [ Ok m ↦ refusal_of v m | Err r ↦ refusal_number r ]) 1 ≡ false) bs
       (λ t w. absurd (true≢false (sym t ∙ w))) (λ _ _ _. refl) (λ _ _ _. refl) (λ _ _ _. refl) (λ _ _ _. refl)
       (λ _ _ _ _. refusal_of-by (λ x. eqb x 1 ≡ false) v (message_of bs) refl refl refl refl refl refl refl refl (λ _ _ _ _ _ _ _ _. refl))
 

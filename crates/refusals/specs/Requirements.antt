@@ -1,7 +1,7 @@
 -- What the functions require, each part by its name.
-use Rattle.std.specs.Prelude.{◌≡◌, true, List, ℕ, length}
+use Rattle.std.specs.Prelude.{◌≡◌, true, List, ℕ}
 use Rattle.rules.specs.Refusals.{regular_in_range, complex_in_range}
-use Rattle.places.specs.Layout.{size, Dense}
+use Rattle.places.specs.Layout.{Dense}
 use Rattle.rules.specs.declared.Regular.{Regular}
 use Rattle.rules.specs.declared.Complex.{Complex}
 

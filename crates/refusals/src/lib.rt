@@ -5,14 +5,14 @@ ghost use Rattle.std.specs.Prelude.{◌≡◌, not, ◌&&◌, ◌||◌, ltb, eqb
 ghost use Rattle.rules.specs.declared.Message.TheVariants.{Order, TwoLeg};
 ghost use Rattle.rules.specs.Base.{held, all};
 ghost use Rattle.rules.specs.Complex.{rests_regular, rests_complex};
-ghost use Rattle.rules.specs.Refusals.{off_increment, idle, refusal_of};
+ghost use Rattle.rules.specs.Refusals.{refused_number, off_increment, idle, refusal_of};
 ghost use Rattle.places.specs.Layout.{size, venue_of, Dense};
 ghost use Rattle.refusals.specs.Editions.{edition_refusal};
 ghost use Rattle.places.specs.Requirements.{IncrementReady};
 ghost use Rattle.refusals.specs.Requirements.{OrderInRange, ComplexInRange};
 
 use places::Numbers;
-use rules::{Complex, Regular};
+use rules::{Complex, Refusal, Regular};
 
 // Refusals 4 and 5 to 8: of orders --------------------------------------------------------------
 
@@ -22,44 +22,44 @@ fn off_increment(numbers: &Numbers, o: Regular) -> bool
     ensures { result ≡ off_increment (venue_of numbers.now) (Order o) }
 {
     let increment = prices::increment_of(numbers, o.series);
-    o.price % (increment as u32) != 0
+    o.price % u32::from(increment) != 0
 }
 
-// The refusal of an order with its fields in their ranges, or 0.
-pub fn order_refusal(numbers: &Numbers, o: Regular) -> u8
+// The refusal of an order with its fields in their ranges, if it meets one.
+pub fn order_refusal(numbers: &Numbers, o: Regular) -> Result<(), Refusal>
     requires { OrderInRange numbers.now o }
-    ensures { result ≡ refusal_of (venue_of numbers.now) (Order o) }
+    ensures { refused_number result ≡ refusal_of (venue_of numbers.now) (Order o) }
 {
     if off_increment(numbers, o) {
-        return 4;
+        return Err(Refusal::OutOfRange);
     }
     if o.id <= places::last_id(numbers) {
-        return 5;
+        return Err(Refusal::IdTooLow);
     }
     if prices::status_of(numbers, o.series) == 0 {
-        return 6;
+        return Err(Refusal::OnClosed);
     }
     if 128 <= places::regulars_used(numbers) {
-        return 7;
+        return Err(Refusal::Full);
     }
-    0
+    Ok(())
 }
 
-// The refusal of a complex order with its fields in their ranges, or 0.
-pub fn complex_refusal(numbers: &Numbers, c: Complex) -> u8
+// The refusal of a complex order with its fields in their ranges, if it meets one.
+pub fn complex_refusal(numbers: &Numbers, c: Complex) -> Result<(), Refusal>
     requires { ComplexInRange numbers.now c }
-    ensures { result ≡ refusal_of (venue_of numbers.now) (TwoLeg c) }
+    ensures { refused_number result ≡ refusal_of (venue_of numbers.now) (TwoLeg c) }
 {
     if c.id <= places::last_id(numbers) {
-        return 5;
+        return Err(Refusal::IdTooLow);
     }
     if prices::any_closed(numbers, c) {
-        return 6;
+        return Err(Refusal::OnClosed);
     }
     if 32 <= places::complexes_used(numbers) {
-        return 7;
+        return Err(Refusal::Full);
     }
-    0
+    Ok(())
 }
 
 // A complex order with an id rests.
@@ -86,13 +86,11 @@ pub fn rests(numbers: &Numbers, id: u32) -> bool
 fn is_above(numbers: &Numbers, edition: u32) -> bool
     ensures { result ≡ all (λ k. ltb k.edition edition) (venue_of numbers.now).editions }
 {
-    let mut i: usize = 0;
-    while i < 32 {
+    for i in 0..32 {
         let k = places::edition_at(numbers, i);
         if edition <= k.edition {
             return false;
         }
-        i += 1;
     }
     true
 }
@@ -112,13 +110,11 @@ fn no_order_in(numbers: &Numbers, s: u8) -> bool
     ensures { result ≡ all (λ o. not (held o.quantity && eqb o.series s)) (venue_of numbers.now).regular }
 {
     let n = places::regulars_used(numbers);
-    let mut i: usize = 0;
-    while i < n {
+    for i in 0..n {
         let o = places::regular_at(numbers, i);
         if rests_in(o, s) {
             return false;
         }
-        i += 1;
     }
     true
 }
@@ -136,18 +132,16 @@ fn has_leg_in(c: Complex, s: u8) -> bool
     c.series2 == s
 }
 
-// No resting complex order has a leg in a series.
+// No resting complex order has a leg in a series. A pass that took its table and its test as closures would have to say more of both than this loop does.
 fn no_leg_in(numbers: &Numbers, s: u8) -> bool
     ensures { result ≡ all (λ c. not (held c.quantity && (eqb c.series1 s || eqb c.series2 s))) (venue_of numbers.now).complex }
 {
     let n = places::complexes_used(numbers);
-    let mut i: usize = 0;
-    while i < n {
+    for i in 0..n {
         let c = places::complex_at(numbers, i);
         if has_leg_in(c, s) {
             return false;
         }
-        i += 1;
     }
     true
 }
@@ -167,17 +161,17 @@ pub fn is_idle(numbers: &Numbers, s: u8) -> bool
 }
 
 // The first of 11 to 13 that a new edition meets; `used` where its figure is the increment of a series in use.
-pub fn edition_refusal(numbers: &Numbers, edition: u32, used: bool) -> u8
-    ensures { result ≡ edition_refusal (venue_of numbers.now) edition used }
+pub fn edition_refusal(numbers: &Numbers, edition: u32, used: bool) -> Result<(), Refusal>
+    ensures { refused_number result ≡ edition_refusal (venue_of numbers.now) edition used }
 {
     if !is_above(numbers, edition) {
-        return 11;
+        return Err(Refusal::EditionTooLow);
     }
     if used {
-        return 12;
+        return Err(Refusal::InUse);
     }
     if 32 <= places::free_edition(numbers) {
-        return 13;
+        return Err(Refusal::NoEditionLeft);
     }
-    0
+    Ok(())
 }

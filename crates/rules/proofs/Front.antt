@@ -1,5 +1,5 @@
 -- The message in front: what comes after a message that is not torn is not read.
-use Rattle.std.specs.Prelude.{if◌then◌else◌}
+use Rattle.std.specs.Prelude.{if◌then◌else◌, Result, Ok, Err}
 use mathlib.Core.Path.{◌≡◌, refl, sym, ap, ◌∙◌}
 use mathlib.Core.Bool.{Bool, true, false, not, ◌&&◌}
 use mathlib.Core.List.{List, ◌++◌}
@@ -12,12 +12,12 @@ use borrow.Author.Tests.{eqb-true}
 use Rattle.rules.specs.declared.Venue.{Venue}
 use Rattle.rules.specs.declared.Message.{Message}
 use Rattle.rules.specs.declared.Message.TheVariants.{Order, TwoLeg, Cancel, Away, Status, Sweep, Increment, Percent, LimitedSweep}
-use Rattle.rules.specs.declared.Decoded.{Decoded}
-use Rattle.rules.specs.declared.Decoded.TheVariants.{Taken, Refused}
+use Rattle.rules.specs.declared.Refusal.{Refusal}
+use Rattle.rules.specs.declared.Refusal.TheVariants.{NoKind, WrongLength, OutOfRange, EqualRatios}
 use Rattle.rules.specs.Bytes.{u8_at, u16_at, u32_at, length_field, kind_field}
 use Rattle.rules.specs.Messages.{length_of, order_at, two_leg_at, message_of}
 use Rattle.rules.specs.Effects.{nothing}
-use Rattle.rules.specs.Refusals.{torn, is_kind, is_length, in_range, equal_ratios, decoded, refusal_of, refusal}
+use Rattle.rules.specs.Refusals.{torn, is_kind, is_length, in_range, equal_ratios, decoded, refusal_of, refusal, refusal_number}
 use Rattle.rules.specs.Step.{accept, answered, step}
 use Rattle.rules.specs.Calls.{one_from, one}
 use Rattle.rules.proofs.RefusalsLaws.{accepted-length, whole, whole_in}
@@ -141,17 +141,17 @@ module _ (m rest : List ℕ) where
         (go (is_length (kind_field m) (length_field m)) refl)
       where
         go : (b : Bool) → is_length (kind_field m) (length_field m) ≡ b →
-            ◌≡◌ {A = Decoded}
-            (if not (is_kind (kind_field m)) then Refused 2 else if not b then Refused 3
-            else if not (in_range (kind_field m) (message_of (m ++ rest))) then Refused 4 else if equal_ratios (m ++ rest) then Refused 14 else Taken (message_of (m ++ rest)))
-            (if not (is_kind (kind_field m)) then Refused 2 else if not b then Refused 3
-            else if not (in_range (kind_field m) (message_of m)) then Refused 4 else if equal_ratios m then Refused 14 else Taken (message_of m))
+            ◌≡◌ {A = Result Message Refusal}
+            (if not (is_kind (kind_field m)) then Err NoKind else if not b then Err WrongLength
+            else if not (in_range (kind_field m) (message_of (m ++ rest))) then Err OutOfRange else if equal_ratios (m ++ rest) then Err EqualRatios else Ok (message_of (m ++ rest)))
+            (if not (is_kind (kind_field m)) then Err NoKind else if not b then Err WrongLength
+            else if not (in_range (kind_field m) (message_of m)) then Err OutOfRange else if equal_ratios m then Err EqualRatios else Ok (message_of m))
         go true e = rw (fits-kind e, ratios-same e)
         go false e = refl
 
     refusal-same : (v : Venue) → refusal v (m ++ rest) ≡ refusal v m
     unfolding refusal
-    refusal-same v = ap (λ (d : Decoded). elim d as (λ _. ℕ) [ Taken x ↦ refusal_of v x | Refused n ↦ n ]) decoded-same
+    refusal-same v = ap (λ (d : Result Message Refusal). elim d as (λ _. ℕ) [ Ok x ↦ refusal_of v x | Err r ↦ refusal_number r ]) decoded-same
 
     pub step_same : (v : Venue) (number : ℕ) → step v number (m ++ rest) ≡ step v number m
     unfolding step

@@ -1,4 +1,5 @@
 -- Refusals: what an accepted message has passed, what a message that is not torn has, and that a refusal is at most 14 and neither 9 nor 10.
+use Rattle.std.specs.Prelude.{Result, Ok, Err}
 use mathlib.Core.Path.{◌≡◌, refl, sym}
 use mathlib.Core.Bool.{Bool, true, false, not, ◌&&◌, ◌||◌}
 use mathlib.Core.Logic.{◌≢◌}
@@ -11,13 +12,13 @@ use borrow.Author.Tests.{eqb-false, eqb-true, le-ltb, ltb-false, ne_eqb}
 use Rattle.rules.specs.declared.Venue.{Venue}
 use Rattle.rules.specs.declared.Message.{Message}
 use Rattle.rules.specs.declared.Message.TheVariants.{Order, TwoLeg, Cancel, Away, Status, Sweep, Increment, Percent, LimitedSweep}
-use Rattle.rules.specs.declared.Decoded.{Decoded}
-use Rattle.rules.specs.declared.Decoded.TheVariants.{Taken, Refused}
+use Rattle.rules.specs.declared.Refusal.{Refusal}
+use Rattle.rules.specs.declared.Refusal.TheVariants.{Torn, NoKind, WrongLength, OutOfRange, EqualRatios}
 use Rattle.rules.specs.Words.{within, is_id, is_series, is_status, is_away, one_to_one}
 use Rattle.rules.specs.Settings.{is_increment, is_percent, is_edition}
 use Rattle.rules.specs.Bytes.{u8_at, length_field, kind_field}
 use Rattle.rules.specs.Messages.{two_leg_at, message_of}
-use Rattle.rules.specs.Refusals.{torn, is_kind, is_length, regular_in_range, two_leg_in_range, far_of, in_range, equal_ratios, decoded, complex_in_range}
+use Rattle.rules.specs.Refusals.{torn, is_kind, is_length, regular_in_range, two_leg_in_range, far_of, in_range, equal_ratios, decoded, complex_in_range, refusal_number}
 use Rattle.rules.specs.Refusals.{off_increment, edition_too_low, in_use, no_edition_left, id_too_low, on_closed, full, unknown, refusal_of, refusal}
 use Rattle.rules.proofs.Tests.{and_in, not-out, or-false-l, or-false-r}
 use Rattle.rules.proofs.Cases.{if-by}
@@ -64,13 +65,13 @@ taken-well bs =
     Q m = in_range (kind_field bs) m ≡ true → (eqb (kind_field bs) 10 && eqb (u8_at bs 21) (u8_at bs 22)) ≡ false → well_formed m ≡ true
 
 -- the refusals 1 to 4, and 14, by their cases
-module _ {ℓ} (Q : Decoded → Type ℓ) (bs : List ℕ) where
-  pub decoded-by : (torn bs ≡ true → Q (Refused 1)) →
-      (torn bs ≡ false → is_kind (kind_field bs) ≡ false → Q (Refused 2)) →
-      (torn bs ≡ false → is_length (kind_field bs) (length_field bs) ≡ false → Q (Refused 3)) →
-      (torn bs ≡ false → in_range (kind_field bs) (message_of bs) ≡ false → Q (Refused 4)) →
-      (torn bs ≡ false → equal_ratios bs ≡ true → Q (Refused 14)) →
-      (torn bs ≡ false → is_length (kind_field bs) (length_field bs) ≡ true → well_formed (message_of bs) ≡ true → Q (Taken (message_of bs))) →
+module _ {ℓ} (Q : Result Message Refusal → Type ℓ) (bs : List ℕ) where
+  pub decoded-by : (torn bs ≡ true → Q (Err Torn)) →
+      (torn bs ≡ false → is_kind (kind_field bs) ≡ false → Q (Err NoKind)) →
+      (torn bs ≡ false → is_length (kind_field bs) (length_field bs) ≡ false → Q (Err WrongLength)) →
+      (torn bs ≡ false → in_range (kind_field bs) (message_of bs) ≡ false → Q (Err OutOfRange)) →
+      (torn bs ≡ false → equal_ratios bs ≡ true → Q (Err EqualRatios)) →
+      (torn bs ≡ false → is_length (kind_field bs) (length_field bs) ≡ true → well_formed (message_of bs) ≡ true → Q (Ok (message_of bs))) →
       Q (decoded bs)
   unfolding decoded
   decoded-by r1 r2 r3 r4 r14 taken =
@@ -108,8 +109,8 @@ pub record Passed (v : Venue) (m : Message) : Type 0 where
   pub known : unknown v m ≡ false
 
 -- the refusal of what was decoded
-abbrev of : Venue → Decoded → ℕ
-of v x = elim x [ Taken m ↦ refusal_of v m | Refused n ↦ n ]
+abbrev of : Venue → Result Message Refusal → ℕ
+of v x = elim x [ Ok m ↦ refusal_of v m | Err r ↦ refusal_number r ]
 
 pub accepted : (v : Venue) (bs : List ℕ) → refusal v bs ≡ 0 → Passed v (message_of bs)
 unfolding refusal

@@ -6,8 +6,6 @@ use Rattle.rules.specs.declared.Complex.{Complex}
 use Rattle.rules.specs.declared.Venue.{Venue}
 use Rattle.rules.specs.declared.Message.{Message}
 use Rattle.rules.specs.declared.Message.TheVariants.{Order, TwoLeg, Cancel, Away, Status, Sweep, Increment, Percent, LimitedSweep}
-use Rattle.rules.specs.declared.Decoded.{Decoded}
-use Rattle.rules.specs.declared.Decoded.TheVariants.{Taken, Refused}
 use Rattle.rules.specs.declared.Refusal.{Refusal}
 use Rattle.rules.specs.declared.Refusal.TheVariants.{Torn, NoKind, WrongLength, OutOfRange, IdTooLow, OnClosed, Full, Unknown}
 use Rattle.rules.specs.declared.Refusal.TheVariants.{EditionTooLow, InUse, NoEditionLeft, EqualRatios}
@@ -101,20 +99,20 @@ unfoldable pub equal_ratios : List ℕ → Bool
 equal_ratios bs = eqb (kind_field bs) 10 && eqb (u8_at bs 21) (u8_at bs 22)
 
 -- the refusal's number that a decoding tells; 0 for a message
-abbrev pub decoded_number : Decoded → ℕ
-decoded_number (Taken m) = 0
-decoded_number (Refused x) = x
+abbrev pub decoded_number : Result Message Refusal → ℕ
+decoded_number (Ok m) = 0
+decoded_number (Err r) = refusal_number r
 
 -- The message at the front of bs, or the first of 1 to 4 and 14 that its bytes meet. 14 is decided here, before 11 to 13, and nothing can
 -- tell: 14 is of kind 10 alone, and kind 10 meets none of 11 to 13.
-unfoldable pub decoded : List ℕ → Decoded
+unfoldable pub decoded : List ℕ → Result Message Refusal
 decoded bs =
-    if torn bs then Refused 1
-    else if not (is_kind (kind_field bs)) then Refused 2
-    else if not (is_length (kind_field bs) (length_field bs)) then Refused 3
-    else if not (in_range (kind_field bs) (message_of bs)) then Refused 4
-    else if equal_ratios bs then Refused 14
-    else Taken (message_of bs)
+    if torn bs then Err Torn
+    else if not (is_kind (kind_field bs)) then Err NoKind
+    else if not (is_length (kind_field bs) (length_field bs)) then Err WrongLength
+    else if not (in_range (kind_field bs) (message_of bs)) then Err OutOfRange
+    else if equal_ratios bs then Err EqualRatios
+    else Ok (message_of bs)
 
 -- A complex order that may rest: of kind 2, one to one, or of kind 10, with ratios that differ.
 unfoldable pub complex_in_range : Complex → Bool
@@ -226,4 +224,4 @@ refusal_of v m =
 
 -- the refusal of the message at the front of bs upon v; 0 where it is accepted
 unfoldable pub refusal : Venue → List ℕ → ℕ
-refusal v bs = elim (decoded bs) [ Taken m ↦ refusal_of v m | Refused x ↦ x ]
+refusal v bs = elim (decoded bs) [ Ok m ↦ refusal_of v m | Err r ↦ refusal_number r ]

@@ -1,7 +1,7 @@
 -- Document 01, "Trials": what is tried, the starred ones, and one for each rule that the laws leave open. The others, of 01 and of the
 -- requests, are the crate trials' (crates/trials/specs/Trials.antt).
 -- A session's messages go in as bytes and its records are read from the report memory's bytes.
-use Rattle.std.specs.Prelude.{Bool, true, false, not, ◌&&◌, ◌≡◌, refl, List, [], ◌∷◌, ◌++◌, map, ℕ, zero, suc, ◌-◌, ℤ, pos, neg_ℤ, set, drop, length, replicate}
+use Rattle.std.specs.Prelude.{Bool, true, false, not, ◌&&◌, ◌≡◌, refl, List, [], ◌∷◌, ◌++◌, map, ℕ, zero, suc, ◌-◌, ℤ, pos, neg_ℤ, set, drop, length, replicate, Result, Ok}
 use Rattle.rules.specs.declared.Regular.{Regular}
 use Rattle.rules.specs.declared.Complex.{Complex}
 use Rattle.rules.specs.declared.Venue.{Venue}
@@ -9,8 +9,7 @@ use Rattle.rules.specs.declared.Legging.{Legging}
 use Rattle.rules.specs.declared.Listed.{Listed}
 use Rattle.rules.specs.declared.Generations.{Generations}
 use Rattle.rules.specs.declared.Settings.{Settings}
-use Rattle.rules.specs.declared.Decoded.{Decoded}
-use Rattle.rules.specs.declared.Decoded.TheVariants.{Taken}
+use Rattle.rules.specs.declared.Refusal.{Refusal}
 use Rattle.rules.specs.declared.Message.{Message}
 use Rattle.rules.specs.declared.Message.TheVariants.{Order, TwoLeg, Cancel, Away, Status, Sweep}
 use Rattle.rules.specs.declared.Cause.TheVariants.{Executed, OutOfBand, NotOpen}
@@ -52,7 +51,7 @@ pub data Outcome : Type 0 where
   ended : (number done written : ℕ) → (read : List Report) → (report : List ℕ) → Outcome
   returned : (number done written : ℕ) → (read : List Report) → (report : List ℕ) → Venue → Outcome
   near : Bool → Outcome
-  read : Decoded → (bytes : List ℕ) → Outcome
+  read : Result Message Refusal → (bytes : List ℕ) → Outcome
   laid : (bytes : List ℕ) → Report → Outcome
   numbered : ℕ → Outcome
   figures : Settings → Outcome
@@ -172,7 +171,7 @@ expected (next bytes rs) = ended 0 1 (length (encode_all rs)) rs (sheet 100 rs)
 expected (onward v before room bytes number done rs w) = returned number done (length (encode_all rs)) rs (sheet room rs) w
 expected (band bid offer t b) = near b
 expected (ranged m b) = near b
-expected (taken bytes m) = read (Taken m) bytes
+expected (taken bytes m) = read (Ok m) bytes
 expected (told r bytes) = laid bytes r
 expected (counted is should) = numbered should
 expected (inforce v n s) = figures s

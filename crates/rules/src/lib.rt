@@ -114,13 +114,6 @@ pub enum Message {
     LimitedSweep(u8),
 }
 
-// The bytes at the front of a message list: a message whose fields are in range, or the refusal, 1 to 4 or 14, that they meet.
-#[derive(Clone, Copy)]
-pub enum Decoded {
-    Taken(Message),
-    Refused(u8),
-}
-
 // Why a message is refused, by rising number: 1 to 8 and 11 to 14. Its number is the definition refusal_number's.
 #[derive(Clone, Copy, Debug, PartialEq, Eq)]
 pub enum Refusal {

@@ -1,4 +1,5 @@
 -- The run of a session: every message is done, and its records fit their widths.
+use Rattle.std.specs.Prelude.{Result, Ok, Err}
 use mathlib.Core.Path.{◌≡◌, refl, sym, ap, ◌∙◌, subst}
 use mathlib.Core.Bool.{true≢false}
 use mathlib.Core.Logic.{◌≢◌}
@@ -7,15 +8,15 @@ use Prim.Native.Nat.{ℕ, zero, suc, ◌+◌, ◌-◌, ◌*◌, ◌≤◌, ◌<�
 use native.Mathlib.Omega.{arith}
 use lib.ListN.{length, length-append, drop}
 use lib.Seq.{drop-append_seam}
+use Rattle.rules.specs.declared.Message.{Message}
 use Rattle.rules.specs.declared.Returned.{Returned}
 use Rattle.rules.specs.declared.Venue.{Venue}
-use Rattle.rules.specs.declared.Decoded.{Decoded}
-use Rattle.rules.specs.declared.Decoded.TheVariants.{Taken, Refused}
+use Rattle.rules.specs.declared.Refusal.{Refusal}
 use Rattle.rules.specs.Bytes.{length_field}
 use Rattle.rules.specs.Messages.{message_of}
 use Rattle.rules.specs.Words.{fresh_venue}
 use Rattle.rules.specs.Records.{ForAll, Fits, encode_all}
-use Rattle.rules.specs.Refusals.{refusal, refusal_of}
+use Rattle.rules.specs.Refusals.{refusal, refusal_of, refusal_number}
 use Rattle.rules.specs.Step.{answered, step}
 use Rattle.rules.specs.Calls.{Call, Outcome, after, called, ends, run, run_from}
 use Rattle.rules.proofs.CallsLaws.{not-exceeds, run_none, run_from-by}
@@ -31,8 +32,8 @@ use Rattle.short_sheets.specs.Short.{Completes, message_at, messages_of, room}
 use Rattle.short_sheets.proofs.Listed.{listed, tells_first}
 
 -- a message that is not torn is not refused by 1
-abbrev of : Venue → Decoded → ℕ
-of v x = elim x [ Taken m ↦ refusal_of v m | Refused n ↦ n ]
+abbrev of : Venue → Result Message Refusal → ℕ
+of v x = elim x [ Ok m ↦ refusal_of v m | Err r ↦ refusal_number r ]
 
 not-refused : (v : Venue) (n : ℕ) (bs : List ℕ) → (4 ≤ length_field bs) × (length_field bs ≤ length bs) → (step v n bs).refused ≢ 1
 unfolding step answered refusal

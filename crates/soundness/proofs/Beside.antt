@@ -137,9 +137,14 @@ module _ (number : ℕ) (v : Venue) where
 
 -- Legging orders ------------------------------------------------------------------------------
 
-pub legging-zero : (l : Legging) → l.parent ≡ 0 → l.price ≡ 0 → eqb l.quantity 0 ≡ blank_legging l
+-- a legging place equals the free one where all of it is zero
+pub legging-same : (l : Legging) → (eqb l.parent 0 && (eqb l.price 0 && eqb l.quantity 0)) ≡ blank_legging l
 unfolding blank_legging
-legging-zero l a b = rw (eq-eqb l.parent 0 a, eq-eqb l.price 0 b)
+legging-same l = go (eqb l.parent 0)
+  where
+    go : (a : Bool) → (a && (eqb l.price 0 && eqb l.quantity 0)) ≡ ((a && eqb l.price 0) && eqb l.quantity 0)
+    go true = refl
+    go false = refl
 
 pub legging-quantity : (l : Legging) → 0 < l.parent → l.parent ≤ 4294967295 → 0 < l.price → l.price ≤ 100000 → 0 < l.quantity →
     leb l.quantity 10000 ≡ legging_in_range l

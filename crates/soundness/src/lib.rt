@@ -26,7 +26,7 @@ fn on_increment(numbers: &Numbers, o: Regular) -> bool
         return true;
     }
     let increment = prices::increment_of(numbers, o.series);
-    o.price % (increment as u32) == 0
+    o.price % u32::from(increment) == 0
 }
 
 // Every resting regular order's price is a multiple of its series' increment in force.
@@ -35,13 +35,11 @@ fn on_increments(numbers: &Numbers) -> bool
     ensures { result ≡ on_increments (venue_of numbers.now) }
 {
     let n = places::regulars_used(numbers);
-    let mut i: usize = 0;
-    while i < n {
+    for i in 0..n {
         let o = places::regular_at(numbers, i);
         if !on_increment(numbers, o) {
             return false;
         }
-        i += 1;
     }
     true
 }
@@ -61,13 +59,11 @@ fn ids_distinct(numbers: &Numbers) -> bool
     ensures { result ≡ ids_distinct (venue_of numbers.now) }
 {
     let n = places::regulars_used(numbers);
-    let mut i: usize = 0;
-    while i < n {
+    for i in 0..n {
         let o = places::regular_at(numbers, i);
         if !is_alone(numbers, o) {
             return false;
         }
-        i += 1;
     }
     true
 }
@@ -93,12 +89,10 @@ fn all_apart(numbers: &Numbers) -> bool
     requires { Right numbers.now }
     ensures { result ≡ all (apart (venue_of numbers.now)) eight }
 {
-    let mut s: u8 = 0;
-    while s < 8 {
+    for s in 0..8 {
         if !is_apart(numbers, s) {
             return false;
         }
-        s += 1;
     }
     true
 }
@@ -107,13 +101,7 @@ fn all_apart(numbers: &Numbers) -> bool
 fn blank_legging(l: Legging) -> bool
     ensures { result ≡ blank_legging l }
 {
-    if l.parent != 0 {
-        return false;
-    }
-    if l.price != 0 {
-        return false;
-    }
-    l.quantity == 0
+    l == rules::NO_LEGGING
 }
 
 // A held legging place's fields are in range.
@@ -192,12 +180,10 @@ fn leggings_sound(numbers: &Numbers, g: [[Level; 2]; 8]) -> bool
     requires { GridReady numbers.now g }
     ensures { result ≡ leggings_sound (venue_of numbers.now) 0 (venue_of numbers.now).legging }
 {
-    let mut n: usize = 0;
-    while n < 16 {
+    for n in 0..16 {
         if !legging_sound(numbers, g, n) {
             return false;
         }
-        n += 1;
     }
     true
 }
@@ -235,13 +221,11 @@ pub fn load_sound(numbers: &mut Numbers, v: Venue) -> bool
 fn follows_editions(numbers: &Numbers, number: u32) -> bool
     ensures { result ≡ all (λ e. ltb e.message number) (venue_of numbers.now).editions }
 {
-    let mut i: usize = 0;
-    while i < 32 {
+    for i in 0..32 {
         let e = places::edition_at(numbers, i);
         if number <= e.message {
             return false;
         }
-        i += 1;
     }
     true
 }
@@ -251,12 +235,10 @@ fn follows_series(numbers: &Numbers, s: usize, number: u32) -> bool
     requires { s < 8 }
     ensures { result ≡ all (λ n. ltb n number) (generations_of (venue_of numbers.now) s) }
 {
-    let mut k: usize = 0;
-    while k < 20 {
+    for k in 0..20 {
         if number <= places::generation_at(numbers, s, k) {
             return false;
         }
-        k += 1;
     }
     true
 }
@@ -265,12 +247,10 @@ fn follows_series(numbers: &Numbers, s: usize, number: u32) -> bool
 fn follows_generations(numbers: &Numbers, number: u32) -> bool
     ensures { result ≡ all (λ g. all (λ n. ltb n number) g.messages) (venue_of numbers.now).generations }
 {
-    let mut s: usize = 0;
-    while s < 8 {
+    for s in 0..8 {
         if !follows_series(numbers, s, number) {
             return false;
         }
-        s += 1;
     }
     true
 }

@@ -1,6 +1,6 @@
 -- Document 01, "Trials", but for the starred ones (rules Trials): the printed session, the wrongs named there, sessions for what these and the theorems
 -- leave open, and the sessions of requests.
-use Rattle.std.specs.Prelude.{true, false, ◌≡◌, refl, List, [], ◌∷◌, ◌++◌, map, ℕ, zero, suc, ◌+◌, ℤ, pos, neg_ℤ, set, drop, length, replicate, if◌then◌else◌, None, Some}
+use Rattle.std.specs.Prelude.{true, false, ◌≡◌, refl, List, [], ◌∷◌, ◌++◌, map, ℕ, zero, suc, ◌+◌, ℤ, pos, neg_ℤ, set, drop, length, replicate, if◌then◌else◌, None, Some, Ok, Err}
 use Rattle.std.proofs.Common.{sym, ap₂, ◌∙◌}
 use Rattle.std.proofs.lemmas.List.{map-append}
 use Rattle.rules.specs.declared.Regular.{Regular}
@@ -11,7 +11,7 @@ use Rattle.rules.specs.declared.Listed.{Listed}
 use Rattle.rules.specs.declared.Edition.{Edition}
 use Rattle.rules.specs.declared.Settings.{Settings}
 use Rattle.rules.specs.declared.Cause.{Cause}
-use Rattle.rules.specs.declared.Decoded.TheVariants.{Taken, Refused}
+use Rattle.rules.specs.declared.Refusal.TheVariants.{WrongLength}
 use Rattle.rules.specs.declared.Message.{Message}
 use Rattle.rules.specs.declared.Message.TheVariants.{Order, TwoLeg, Cancel, Away, Status, Sweep, Increment, Percent, LimitedSweep}
 use Rattle.rules.specs.declared.Cause.TheVariants.{Worse, Unpaired, Executed, Withdrawn, OutOfBand, NotOpen, Replaced, Touched, NoUnit}
@@ -952,7 +952,7 @@ numbers =
     -- no length where there is no such kind
     ∷ counted (length_of 0) 0 ∷ counted (length_of 12) 0
     -- the numbers of answers that are enums
-    ∷ counted (verdict_number None) 0 ∷ counted (verdict_number (Some NotOpen)) 6 ∷ counted (verdict_number (Some NoUnit)) 10 ∷ counted (decoded_number (Taken Sweep)) 0 ∷ counted (decoded_number (Refused 3)) 3
+    ∷ counted (verdict_number None) 0 ∷ counted (verdict_number (Some NotOpen)) 6 ∷ counted (verdict_number (Some NoUnit)) 10 ∷ counted (decoded_number (Ok Sweep)) 0 ∷ counted (decoded_number (Err WrongLength)) 3
     -- "contracts in a series from that series' 65, as taker or maker; pairs, or paired, from 66; crossed from 70, as taker or maker; cancelled from 71"
     ∷ counted (total (contracts 3 0) named) 12 ∷ counted (total (contracts 3 1) named) 6 ∷ counted (total (contracts 4 0) named) 5 ∷ counted (total (contracts 4 1) named) 0
     ∷ counted (total (contracts_at 3 0 115) named) 5 ∷ counted (total (contracts_at 3 0 120) named) 7 ∷ counted (total (contracts_at 3 1 120) named) 0

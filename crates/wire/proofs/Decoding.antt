@@ -1,4 +1,5 @@
 -- The refusals 1 to 4 and 14 and the message, each from what the code has found of the bytes.
+use Rattle.std.specs.Prelude.{Ok, Err}
 use Rattle.std.specs.Ordering.{is_le, nat_cmp}
 use mathlib.Core.Path.{◌≡◌, refl, ap₂}
 use mathlib.Core.Bool.{Bool, true, false, not, ◌&&◌, ◌||◌}
@@ -12,7 +13,7 @@ use Rattle.rules.specs.declared.Regular.{Regular}
 use Rattle.rules.specs.declared.Complex.{Complex}
 use Rattle.rules.specs.declared.Message.{Message}
 use Rattle.rules.specs.declared.Message.TheVariants.{Order, TwoLeg, Cancel, Away, Status, Sweep, Increment, Percent, LimitedSweep}
-use Rattle.rules.specs.declared.Decoded.TheVariants.{Taken, Refused}
+use Rattle.rules.specs.declared.Refusal.TheVariants.{Torn, NoKind, WrongLength, OutOfRange, EqualRatios}
 use Rattle.rules.specs.Words.{within, is_id, is_series, is_side, is_class, is_quantity, is_price, is_limit, is_ratio}
 use Rattle.rules.specs.Settings.{is_edition}
 use Rattle.rules.specs.Bytes.{u8_at, u16_at, u32_at, length_field, kind_field}
@@ -131,15 +132,15 @@ or-true true = refl
 or-true false = refl
 
 module _ (s : List ℕ) where
-  pub torn-short : length s < 4 → Refused 1 ≡ decoded s
+  pub torn-short : length s < 4 → Err Torn ≡ decoded s
   unfolding decoded torn
   torn-short h = rw (lt-ltb _ _ h)
 
-  pub torn-low : u16_at s 0 < 4 → Refused 1 ≡ decoded s
+  pub torn-low : u16_at s 0 < 4 → Err Torn ≡ decoded s
   unfolding decoded torn length_field
   torn-low h = simp (lt-ltb _ _ h, or-true)
 
-  pub torn-high : length s < u16_at s 0 → Refused 1 ≡ decoded s
+  pub torn-high : length s < u16_at s 0 → Err Torn ≡ decoded s
   unfolding decoded torn length_field
   torn-high h = simp (lt-ltb _ _ h, or-true)
 
@@ -148,24 +149,24 @@ module _ (s : List ℕ) where
   unfolding torn length_field
   whole a b c = rw (le-ltb _ _ a, le-ltb _ _ b, le-ltb _ _ c)
 
-  pub no_kind : torn s ≡ false → is_kind (u16_at s 2) ≡ false → Refused 2 ≡ decoded s
+  pub no_kind : torn s ≡ false → is_kind (u16_at s 2) ≡ false → Err NoKind ≡ decoded s
   unfolding decoded kind_field
   no_kind t k = rw (t, k)
 
-  pub no_length : torn s ≡ false → is_kind (u16_at s 2) ≡ true → (u16_at s 0 ≡ length_of (u16_at s 2) → ⊥) → Refused 3 ≡ decoded s
+  pub no_length : torn s ≡ false → is_kind (u16_at s 2) ≡ true → (u16_at s 0 ≡ length_of (u16_at s 2) → ⊥) → Err WrongLength ≡ decoded s
   unfolding decoded kind_field length_field is_length
   no_length t k n = rw (t, k, ne_eqb _ _ n)
 
   module _ (m : Message) (e : m ≡ message_of s) (t : torn s ≡ false) (k : is_kind (u16_at s 2) ≡ true) (n : u16_at s 0 ≡ length_of (u16_at s 2)) where
-    pub no-range : in_range (u16_at s 2) m ≡ false → Refused 4 ≡ decoded s
+    pub no-range : in_range (u16_at s 2) m ≡ false → Err OutOfRange ≡ decoded s
     unfolding decoded kind_field length_field is_length
     no-range h = rw (t, k, eq-eqb _ _ n, ← e, h)
 
     module _ (h : in_range (u16_at s 2) m ≡ true) where
-      pub equal : equal_ratios s ≡ true → Refused 14 ≡ decoded s
+      pub equal : equal_ratios s ≡ true → Err EqualRatios ≡ decoded s
       unfolding decoded kind_field length_field is_length
       equal q = rw (t, k, eq-eqb _ _ n, ← e, h, q)
 
-      pub taken : equal_ratios s ≡ false → Taken m ≡ decoded s
+      pub taken : equal_ratios s ≡ false → Ok m ≡ decoded s
       unfolding decoded kind_field length_field is_length
       taken q = rw (t, k, eq-eqb _ _ n, ← e, h, q)

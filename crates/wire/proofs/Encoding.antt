@@ -1,5 +1,5 @@
 -- A message is decoded from its bytes.
-use Rattle.std.specs.Prelude.{if◌then◌else◌}
+use Rattle.std.specs.Prelude.{if◌then◌else◌, Ok}
 use mathlib.Core.Path.{◌≡◌, refl, sym, ap, ◌∙◌}
 use mathlib.Core.Bool.{Bool, true, false, not, ◌&&◌}
 use mathlib.Core.List.{List, ◌∷◌, ◌++◌}
@@ -13,7 +13,6 @@ use Rattle.rules.specs.declared.Regular.{Regular}
 use Rattle.rules.specs.declared.Complex.{Complex}
 use Rattle.rules.specs.declared.Message.{Message}
 use Rattle.rules.specs.declared.Message.TheVariants.{Order, TwoLeg, Cancel, Away, Status, Sweep, Increment, Percent, LimitedSweep}
-use Rattle.rules.specs.declared.Decoded.TheVariants.{Taken}
 use Rattle.rules.specs.Words.{within, is_id, is_series, is_side, is_class, is_status, is_quantity, is_away, is_price, one_to_one}
 use Rattle.rules.specs.Settings.{is_increment, is_percent, is_edition}
 use Rattle.rules.specs.Bytes.{u8_at, u16_at, u32_at, as_unsigned, length_field, kind_field, bytes, u8, u32, framed}
@@ -257,7 +256,7 @@ front (Percent x e) rest h = record { size = refl; kind = refl; kinds-size = ref
 front (LimitedSweep n) rest h = record { size = refl; kind = refl; kinds-size = refl; least = omega arith; range = h; uneven = refl }
 
 -- decoding gives the message back, whatever follows
-pub decodes-back : (m : Message) → well_formed m ≡ true → Shows m → (rest : List ℕ) → decoded (encode_message m ++ rest) ≡ Taken m
+pub decodes-back : (m : Message) → well_formed m ≡ true → Shows m → (rest : List ℕ) → decoded (encode_message m ++ rest) ≡ Ok m
 unfolding length_field kind_field
 decodes-back m h z rest =
     let s : List ℕ = encode_message m ++ rest in

@@ -8,7 +8,6 @@ use Rattle.rules.proofs.Tests.{and_l}
 use Rattle.places.specs.Layout.{Loaded}
 use Rattle.soundness.proofs.ReadyFor.{unready, ready-last, ready-next}
 use Rattle.engine.proofs.OneCallLaws.{laid-sound, one-unready, one-no-number, one-no-room, one-done}
-use borrow.Author.Rules.{rules}
 use Rattle.engine.proofs.one_message.Goals as goal
 
 pub returns-then-not-load_sound : goal.returns-then-not-load_sound

@@ -7,7 +7,7 @@ use Rattle.feed.proofs.Ahead.{ahead-ready}
 use Rattle.feed_run.proofs.FeedsLaws.{FeedEnded, feeding-start, feeding-again, feeding-end, feeding-stop, not-ends, fed}
 use borrow.Author.Rules.{rules}
 use Rattle.feed_run.proofs.feed_lines.Goals as goal
-use Rattle.feed_run.proofs.feed_lines.Goals.{then-at_ends, else-at_ends+then-t-ne0}
+use Rattle.feed_run.proofs.feed_lines.Goals.{else-loop-numbers-test, then-loop-numbers-test+then-t-ne0}
 
 pub fresh_numbers-numbers-requires : goal.fresh_numbers-numbers-requires
 fresh_numbers-numbers-requires c = tt
@@ -21,7 +21,7 @@ at_ends-requires c = tt
 pub hand_out-t-requires : goal.hand_out-t-requires
 hand_out-t-requires c =
     let ahead : let a = c.args in
-    let t = c.loop-numbers.t in t.main + t.spare < length a.main.now + length a.spare.now = let g = c.loop-numbers.invariant in not-ends _ _ _ _ g.main-in g.spare-in (sym c.at_ends.ensures ∙ c.if-at_ends.false) in
+    let t = c.loop-numbers.t in t.main + t.spare < length a.main.now + length a.spare.now = let g = c.loop-numbers.invariant in not-ends _ _ _ _ g.main-in g.spare-in (sym c.at_ends.ensures ∙ c.loop-numbers-test.true) in
     let g = c.loop-numbers.invariant in let w = g.sofar.within in let e = g.sofar.len in record {
       dense = g.dense;
       sound = g.sound;
@@ -36,14 +36,14 @@ hand_out-t-requires c =
 pub loop-numbers-smaller : goal.loop-numbers-smaller
 loop-numbers-smaller c =
     let ahead : let a = c.args in
-    let t = c.loop-numbers.t in t.main + t.spare < length a.main.now + length a.spare.now = let g = c.loop-numbers.invariant in not-ends _ _ _ _ g.main-in g.spare-in (sym c.at_ends.ensures ∙ c.if-at_ends.false) in
+    let t = c.loop-numbers.t in t.main + t.spare < length a.main.now + length a.spare.now = let g = c.loop-numbers.invariant in not-ends _ _ _ _ g.main-in g.spare-in (sym c.at_ends.ensures ∙ c.loop-numbers-test.true) in
     let v = c.hand_out-t.ensures.moved c.if-t-ne0.false in let p = v.3 in
     let q = ahead in omega arith
 
 pub loop-numbers-preserved : goal.loop-numbers-preserved
 loop-numbers-preserved c =
     let ahead : let a = c.args in
-    let t = c.loop-numbers.t in t.main + t.spare < length a.main.now + length a.spare.now = let g = c.loop-numbers.invariant in not-ends _ _ _ _ g.main-in g.spare-in (sym c.at_ends.ensures ∙ c.if-at_ends.false) in
+    let t = c.loop-numbers.t in t.main + t.spare < length a.main.now + length a.spare.now = let g = c.loop-numbers.invariant in not-ends _ _ _ _ g.main-in g.spare-in (sym c.at_ends.ensures ∙ c.loop-numbers-test.true) in
     feeding-again _ _ _ _ _ _ c.loop-numbers.invariant
     ahead c.hand_out-t.result c.hand_out-t.new.numbers c.hand_out-t.new.report (omega arith)
     c.hand_out-t.auto.report c.hand_out-t.ensures c.if-t-ne0.false
@@ -51,32 +51,18 @@ loop-numbers-preserved c =
 pub zero_from-requires : goal.zero_from-requires
 zero_from-requires c = tt
 
-pub shape_of-report : goal.shape_of-report
-shape_of-report c =
-    let ended : FeedEnded c.args.main.now c.args.spare.now c.args.report.now c.if-at_ends.numbers c.if-at_ends.report c.if-at_ends.t =
-    elim c.if-at_ends.branch [
-      | then-at_ends w ↦ rw (w.report-is, w.numbers-is, w.t-is)
-          (feeding-end _ _ _ _ _ _ c.loop-numbers.invariant (sym c.at_ends.ensures ∙ w.if-at_ends.true))
-      | else-at_ends+then-t-ne0 w ↦ rw (w.report-is, w.numbers-is, w.t-is)
-          (feeding-stop _ _ _ _ _ _ c.loop-numbers.invariant
-          (not-ends _ _ _ _ c.loop-numbers.invariant.main-in c.loop-numbers.invariant.spare-in (sym c.at_ends.ensures ∙ w.if-at_ends.false))
-          w.hand_out-t.result w.hand_out-t.new.numbers w.hand_out-t.new.report
-          (omega arith) w.hand_out-t.auto.report w.hand_out-t.ensures w.if-t-ne0.true)
-    ] in
-    c.zero_from.auto.out ∙ ended.len
-
 pub returns : goal.returns
 returns c =
-    let ended : FeedEnded c.args.main.now c.args.spare.now c.args.report.now c.if-at_ends.numbers c.if-at_ends.report c.if-at_ends.t =
-    elim c.if-at_ends.branch [
-      | then-at_ends w ↦ rw (w.report-is, w.numbers-is, w.t-is)
-          (feeding-end _ _ _ _ _ _ c.loop-numbers.invariant (sym c.at_ends.ensures ∙ w.if-at_ends.true))
-      | else-at_ends+then-t-ne0 w ↦ rw (w.report-is, w.numbers-is, w.t-is)
+    let ended : FeedEnded c.args.main.now c.args.spare.now c.args.report.now c.loop-numbers-test.numbers c.loop-numbers-test.report c.loop-numbers-test.t =
+    elim c.loop-numbers-test.branch [
+      | else-loop-numbers-test w ↦ rw (w.report-is, w.numbers-is, w.t-is)
+          (feeding-end _ _ _ _ _ _ c.loop-numbers.invariant (sym c.at_ends.ensures ∙ w.loop-numbers-test.false))
+      | then-loop-numbers-test+then-t-ne0 w ↦ rw (w.report-is, w.numbers-is, w.t-is)
           (feeding-stop _ _ _ _ _ _ c.loop-numbers.invariant
-          (not-ends _ _ _ _ c.loop-numbers.invariant.main-in c.loop-numbers.invariant.spare-in (sym c.at_ends.ensures ∙ w.if-at_ends.false))
+          (not-ends _ _ _ _ c.loop-numbers.invariant.main-in c.loop-numbers.invariant.spare-in (sym c.at_ends.ensures ∙ w.loop-numbers-test.true))
           w.hand_out-t.result w.hand_out-t.new.numbers w.hand_out-t.new.report
           (omega arith) w.hand_out-t.auto.report w.hand_out-t.ensures w.if-t-ne0.true)
     ] in
     fed c.args.main.now c.args.spare.now c.args.report.now
-    c.if-at_ends.numbers c.if-at_ends.report c.zero_from.new.out c.if-at_ends.t c.venue_of-venue.result c.requires.main
+    c.loop-numbers-test.numbers c.loop-numbers-test.report c.zero_from.new.out c.loop-numbers-test.t c.venue_of-venue.result c.requires.main
     c.requires.spare ended c.zero_from.ensures c.venue_of-venue.ensures

@@ -9,7 +9,7 @@ use Rattle.places.specs.Layout.{venue_of}
 use Rattle.rules.proofs.Ranges.{above, inside}
 use Rattle.refusals.proofs.Passing.{percent-place}
 use Rattle.refusals.proofs.RefusalFound.{percent-refusal}
-use Rattle.answers.proofs.Answering.{refused-steps, done-steps, out-steps, in-steps}
+use Rattle.answers.proofs.Answering.{found-steps, done-steps, out-steps, in-steps}
 use Rattle.market_messages.proofs.percent_step.Goals as goal
 
 pub returns-then-x-gt50 : goal.returns-then-x-gt50
@@ -17,19 +17,19 @@ unfolding is_percent
 returns-then-x-gt50 c = out-steps _ _ _ _ _ _ _ _ _ (any-edition _ _ (omega arith) ∙ above 0 50 _ c.if-x-gt50.true)
     c.refuse.ensures
 
-pub returns-then-refused-ne0 : goal.returns-then-refused-ne0
+pub returns-in-Err : goal.returns-in-Err
 unfolding is_percent
-returns-then-refused-ne0 c =
+returns-in-Err c =
     in-steps _ _ _ _ _ _ _ _ _ (any-edition _ _ (omega arith) ∙ inside 0 50 _ (omega arith)
-    c.if-x-gt50.false) refl (refused-steps _ _ _ _ _ _ _ _
-    (c.edition_refusal-refused.ensures ∙ percent-refusal (venue_of c.args.numbers.now) c.args.x
-    c.args.edition) c.if-refused-ne0.true c.refuse-then-refused-ne0.ensures)
+    c.if-x-gt50.false) refl (found-steps _ _ _ _ _ _ _ _ _ c.refusal_number.ensures
+    (c.in-Err.ensures ∙ percent-refusal (venue_of c.args.numbers.now) c.args.x
+    c.args.edition) c.refuse-in-Err.ensures)
 
 pub set_figure-end-requires : goal.set_figure-end-requires
 set_figure-end-requires c =
     record {
-      free = percent-place _ _ _ (sym (c.edition_refusal-refused.ensures ∙ percent-refusal (venue_of
-          c.args.numbers.now) c.args.x c.args.edition) ∙ c.if-refused-ne0.false);
+      free = percent-place _ _ _ (sym (c.in_default.ensures ∙ percent-refusal (venue_of
+          c.args.numbers.now) c.args.x c.args.edition));
       value = inr
           (omega arith);
       right = c.requires.dense.right;
@@ -44,6 +44,5 @@ unfolding is_percent perform
 returns c =
     in-steps _ _ _ _ _ _ _ _ _ (any-edition _ _ (omega arith) ∙ inside 0 50 _ (omega arith)
     c.if-x-gt50.false) refl (done-steps _ _ _ _ _ _ _ _ _ _ _ _ (sym
-    (c.edition_refusal-refused.ensures ∙ percent-refusal (venue_of c.args.numbers.now) c.args.x c.args.edition)
-    ∙ c.if-refused-ne0.false) c.emit_answer-at.ensures c.set_figure-end.ensures.result_after
+    (c.in_default.ensures ∙ percent-refusal (venue_of c.args.numbers.now) c.args.x c.args.edition)) c.emit_answer-at.ensures c.set_figure-end.ensures.result_after
     c.finish.ensures)

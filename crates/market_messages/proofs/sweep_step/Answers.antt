@@ -1,5 +1,4 @@
 -- `market_messages::sweep_step` meets its contract.
-use mathlib.Core.Path.{◌∙◌}
 use Rattle.rules.specs.Step.{perform}
 use Rattle.refusals.proofs.RefusalFound.{sweep-taken}
 use Rattle.answers.proofs.Answering.{done-steps}

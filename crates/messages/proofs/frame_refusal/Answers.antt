@@ -1,5 +1,5 @@
 -- `messages::frame_refusal` meets its contract.
-use mathlib.Core.Path.{refl, ap, ◌∙◌}
+use mathlib.Core.Path.{ap, ◌∙◌}
 use native.Mathlib.Omega.{arith}
 use Rattle.rules.specs.Bytes.{u16_at}
 use Rattle.rules.specs.Messages.{length_of}
@@ -9,62 +9,49 @@ use Rattle.rules.proofs.Ranges.{below, above, inside}
 use Rattle.messages.proofs.frame_refusal.Goals as goal
 
 pub returns-then-message-lt4 : goal.returns-then-message-lt4
-returns-then-message-lt4 c = record { framed = λ z. absurd (omega arith); refused = λ _. torn-short _ c.if-message-lt4.true }
+returns-then-message-lt4 c = torn-short _ c.if-message-lt4.true
 
 pub returns-then-size-lt4 : goal.returns-then-size-lt4
 returns-then-size-lt4 c =
     let bs = c.args.message.now in
-    record { framed = λ z. absurd (omega arith); refused = λ _. torn-low bs (omega arith) }
+    torn-low bs (omega arith)
 
 pub returns-then-message-size : goal.returns-then-message-size
 returns-then-message-size c =
     let bs = c.args.message.now in
-    record { framed = λ z. absurd (omega arith); refused = λ _. torn-high bs (omega arith) }
+    torn-high bs (omega arith)
 
 pub returns-then-kind-eq0 : goal.returns-then-kind-eq0
 unfolding is_kind
 returns-then-kind-eq0 c =
     let bs = c.args.message.now in
-    record {
-      framed = λ z. absurd (omega arith);
-      refused = λ _. no_kind bs (whole bs (omega arith) (omega arith) (omega arith)) (below 1 11 (u16_at bs 2)
-          (omega arith));
-    }
+    no_kind bs (whole bs (omega arith) (omega arith) (omega arith)) (below 1 11 (u16_at bs 2)
+    (omega arith))
 
 pub returns-then-kind-gt11 : goal.returns-then-kind-gt11
 unfolding is_kind
 returns-then-kind-gt11 c =
     let bs = c.args.message.now in
-    record {
-      framed = λ z. absurd (omega arith);
-      refused = λ _. no_kind bs (whole bs (omega arith) (omega arith) (omega arith)) (above 1 11 (u16_at bs 2)
-          (omega arith));
-    }
+    no_kind bs (whole bs (omega arith) (omega arith) (omega arith)) (above 1 11 (u16_at bs 2)
+    (omega arith))
 
 pub returns-then-size-length_of : goal.returns-then-size-length_of
 unfolding is_kind
 returns-then-size-length_of c =
     let bs = c.args.message.now in
     let n = c.length_of.ensures ∙ ap length_of c.half_at-kind.ensures in
-    record {
-      framed = λ z. absurd (omega arith);
-      refused = λ _. no_length bs (whole bs (omega arith) (omega arith) (omega arith)) (inside 1 11 (u16_at bs 2)
-          (omega arith) (omega arith)) (λ e. omega arith);
-    }
+    no_length bs (whole bs (omega arith) (omega arith) (omega arith)) (inside 1 11 (u16_at bs 2)
+    (omega arith) (omega arith)) (λ e. omega arith)
 
 pub returns : goal.returns
 returns c =
     let bs = c.args.message.now in
     let n = c.length_of.ensures ∙ ap length_of c.half_at-kind.ensures in
     record {
-      framed = λ _. record {
-        whole = whole bs (omega arith) (omega arith)
-            (omega arith);
-        four = omega arith;
-        low = omega arith;
-        high = omega arith;
-        size = omega arith;
-        room = omega arith;
-      };
-      refused = λ z. absurd (z refl);
+      whole = whole bs (omega arith) (omega arith) (omega arith);
+      four = omega arith;
+      low = omega arith;
+      high = omega arith;
+      size = omega arith;
+      room = omega arith;
     }

@@ -3,20 +3,18 @@ use native.Mathlib.Omega.{arith}
 use Rattle.messages.proofs.Dispatching.{torn-steps}
 use Rattle.messages.proofs.step.Goals as goal
 
-pub returns-then-refused-ne0 : goal.returns-then-refused-ne0
-returns-then-refused-ne0 c = torn-steps _ _ _ _ _ _ _ _ (c.frame_refusal-refused.ensures.refused
-    c.if-refused-ne0.true) c.refuse.ensures
+pub returns-in-Err : goal.returns-in-Err
+returns-in-Err c = torn-steps _ _ _ _ _ _ _ _ _ c.refusal_number.ensures c.in-Err.ensures c.refuse.ensures
 
 pub half_at-kind-requires : goal.half_at-kind-requires
-half_at-kind-requires c = let f = c.frame_refusal-refused.ensures.framed c.if-refused-ne0.false in omega arith
+half_at-kind-requires c = let f = c.in_default.ensures in omega arith
 
 pub first_kinds-requires : goal.first_kinds-requires
 first_kinds-requires c =
     record {
       dense = c.requires.dense;
       sound = c.requires.sound;
-      framed = c.frame_refusal-refused.ensures.framed
-          c.if-refused-ne0.false;
+      framed = c.in_default.ensures;
       kind = c.half_at-kind.ensures;
       most = c.if-kind-le3.true;
     }
@@ -29,8 +27,7 @@ market_kinds-requires c =
     record {
       dense = c.requires.dense;
       sound = c.requires.sound;
-      framed = c.frame_refusal-refused.ensures.framed
-          c.if-refused-ne0.false;
+      framed = c.in_default.ensures;
       kind = c.half_at-kind.ensures;
       least = omega arith;
       most = c.if-kind-le6.true;
@@ -44,8 +41,7 @@ later_kinds-requires c =
     record {
       dense = c.requires.dense;
       sound = c.requires.sound;
-      framed = c.frame_refusal-refused.ensures.framed
-          c.if-refused-ne0.false;
+      framed = c.in_default.ensures;
       kind = c.half_at-kind.ensures;
       least = omega arith;
     }

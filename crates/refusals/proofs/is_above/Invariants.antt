@@ -1,6 +1,6 @@
 use mathlib.Core.Path.{◌≡◌}
 use mathlib.Core.Bool.{Bool, true}
-use Prim.Native.Nat.{ℕ, ◌-◌, ◌≤◌, ◌<◌}
+use Prim.Native.Nat.{ℕ, ◌<◌}
 use lib.Dec.{ltb}
 use Rattle.rules.specs.declared.Edition.{Edition}
 use Rattle.places.specs.Layout.{edition_in}
@@ -10,7 +10,4 @@ abbrev below : ℕ → Edition → Bool
 below e k = ltb k.edition e
 
 abbrev pub invariant-loop-i : goal.invariant-loop-i
-invariant-loop-i l = (l.i ≤ 32) × ((j : ℕ) → j < l.i → below l.edition (edition_in l.numbers j) ≡ true)
-
-abbrev pub decreases-loop-i : goal.decreases-loop-i
-decreases-loop-i l = 32 - l.i
+invariant-loop-i l = (j : ℕ) → j < l.i → below l.edition (edition_in l.numbers j) ≡ true

@@ -18,7 +18,7 @@ abbrev elsewhere : ℕ → Complex → Bool
 elsewhere s x = not (held x.quantity && (eqb x.series1 s || eqb x.series2 s))
 
 pub loop-i-init : goal.loop-i-init
-loop-i-init c = (search rules, λ j q. absurd (omega arith))
+loop-i-init c = (λ j q. absurd (omega arith))
 
 pub complex_at-c-requires : goal.complex_at-c-requires
 complex_at-c-requires c = let w = complexes-few c.args.numbers.now in search rules
@@ -30,19 +30,14 @@ returns-then-has_leg_in c = let b = c.args.numbers.now in
     (complexes-few b) c.loop-i.i (omega arith)
     (ap (elsewhere s) (sym c.complex_at-c.ensures) ∙ ap not (sym c.has_leg_in.ensures ∙ c.if-has_leg_in.true))
 
-pub overflow_add-i : goal.overflow_add-i
-overflow_add-i c = let w = complexes-few c.args.numbers.now in search rules
-
 pub loop-i-preserved : goal.loop-i-preserved
 loop-i-preserved c = let b = c.args.numbers.now in
-    let s = c.args.s in (
-      omega arith,
-      below_more (λ j. elsewhere s (complex_in b j) ≡ true) c.loop-i.i
-          c.loop-i.invariant.1
-          (ap (elsewhere s) (sym c.complex_at-c.ensures) ∙ ap not (sym c.has_leg_in.ensures ∙ c.if-has_leg_in.false)),
-    )
+    let s = c.args.s in
+    below_more (λ j. elsewhere s (complex_in b j) ≡ true) c.loop-i.i
+    c.loop-i.invariant
+    (ap (elsewhere s) (sym c.complex_at-c.ensures) ∙ ap not (sym c.has_leg_in.ensures ∙ c.if-has_leg_in.false))
 
 pub returns : goal.returns
 unfolding venue_of
 returns c = let b = c.args.numbers.now in let s = c.args.s in
-    all_pass (elsewhere s) no_complex (complex_in b) (complexes_used b) 32 (complexes-few b) (λ _. refl) (λ j q. c.loop-i.invariant.1 j (omega arith))
+    all_pass (elsewhere s) no_complex (complex_in b) (complexes_used b) 32 (complexes-few b) (λ _. refl) (λ j q. c.loop-i.invariant j (omega arith))

@@ -1,17 +1,14 @@
 use mathlib.Core.Path.{◌≡◌}
 use mathlib.Core.Bool.{Bool, true, not, ◌&&◌, ◌||◌}
-use Prim.Native.Nat.{ℕ, ◌-◌, ◌≤◌, ◌<◌}
+use Prim.Native.Nat.{ℕ, ◌<◌}
 use lib.Dec.{eqb}
 use Rattle.rules.specs.declared.Complex.{Complex}
 use Rattle.rules.specs.Base.{held}
-use Rattle.places.specs.Layout.{complexes_used, complex_in}
+use Rattle.places.specs.Layout.{complex_in}
 use Rattle.refusals.proofs.no_leg_in.Given as goal
 
 abbrev elsewhere : ℕ → Complex → Bool
 elsewhere s x = not (held x.quantity && (eqb x.series1 s || eqb x.series2 s))
 
 abbrev pub invariant-loop-i : goal.invariant-loop-i
-invariant-loop-i l = (l.i ≤ complexes_used l.numbers) × ((j : ℕ) → j < l.i → elsewhere l.s (complex_in l.numbers j) ≡ true)
-
-abbrev pub decreases-loop-i : goal.decreases-loop-i
-decreases-loop-i l = complexes_used l.numbers - l.i
+invariant-loop-i l = (j : ℕ) → j < l.i → elsewhere l.s (complex_in l.numbers j) ≡ true

@@ -18,7 +18,7 @@ abbrev elsewhere : ℕ → Regular → Bool
 elsewhere s x = not (held x.quantity && eqb x.series s)
 
 pub loop-i-init : goal.loop-i-init
-loop-i-init c = (search rules, λ j q. absurd (omega arith))
+loop-i-init c = (λ j q. absurd (omega arith))
 
 pub regular_at-o-requires : goal.regular_at-o-requires
 regular_at-o-requires c = let w = regulars-few c.args.numbers.now in search rules
@@ -30,19 +30,14 @@ returns-then-rests_in c = let b = c.args.numbers.now in
     (regulars-few b) c.loop-i.i (omega arith)
     (ap (elsewhere s) (sym c.regular_at-o.ensures) ∙ ap not (sym c.rests_in.ensures ∙ c.if-rests_in.true))
 
-pub overflow_add-i : goal.overflow_add-i
-overflow_add-i c = let w = regulars-few c.args.numbers.now in search rules
-
 pub loop-i-preserved : goal.loop-i-preserved
 loop-i-preserved c = let b = c.args.numbers.now in
-    let s = c.args.s in (
-      omega arith,
-      below_more (λ j. elsewhere s (regular_in b j) ≡ true) c.loop-i.i
-          c.loop-i.invariant.1
-          (ap (elsewhere s) (sym c.regular_at-o.ensures) ∙ ap not (sym c.rests_in.ensures ∙ c.if-rests_in.false)),
-    )
+    let s = c.args.s in
+    below_more (λ j. elsewhere s (regular_in b j) ≡ true) c.loop-i.i
+    c.loop-i.invariant
+    (ap (elsewhere s) (sym c.regular_at-o.ensures) ∙ ap not (sym c.rests_in.ensures ∙ c.if-rests_in.false))
 
 pub returns : goal.returns
 unfolding venue_of
 returns c = let b = c.args.numbers.now in let s = c.args.s in
-    all_pass (elsewhere s) no_regular (regular_in b) (regulars_used b) 128 (regulars-few b) (λ _. refl) (λ j q. c.loop-i.invariant.1 j (omega arith))
+    all_pass (elsewhere s) no_regular (regular_in b) (regulars_used b) 128 (regulars-few b) (λ _. refl) (λ j q. c.loop-i.invariant j (omega arith))

@@ -1,5 +1,5 @@
 use mathlib.Core.Path.{◌≡◌}
-use Prim.Native.Nat.{ℕ, ◌-◌, ◌≤◌}
+use Prim.Native.Nat.{ℕ, ◌-◌}
 use Rattle.rules.specs.Base.{all}
 use Rattle.rules.specs.Sound.{apart}
 use Rattle.places.specs.Layout.{upto, venue_of}
@@ -7,7 +7,4 @@ use Rattle.soundness.specs.Checked.{eight}
 use Rattle.soundness.proofs.all_apart.Given as goal
 
 abbrev pub invariant-loop-s : goal.invariant-loop-s
-invariant-loop-s l = (l.s ≤ 8) × (all (apart (venue_of l.numbers)) (upto (λ (n : ℕ). n) l.s (8 - l.s)) ≡ all (apart (venue_of l.numbers)) eight)
-
-abbrev pub decreases-loop-s : goal.decreases-loop-s
-decreases-loop-s l = 8 - l.s
+invariant-loop-s l = all (apart (venue_of l.numbers)) (upto (λ (n : ℕ). n) l.s (8 - l.s)) ≡ all (apart (venue_of l.numbers)) eight

@@ -1,6 +1,6 @@
 use mathlib.Core.Path.{◌≡◌}
 use mathlib.Core.Bool.{Bool}
-use Prim.Native.Nat.{ℕ, ◌-◌, ◌≤◌}
+use Prim.Native.Nat.{ℕ, ◌-◌}
 use lib.Dec.{ltb}
 use Rattle.rules.specs.declared.Edition.{Edition}
 use Rattle.rules.specs.Base.{all}
@@ -11,7 +11,4 @@ abbrev earlier : (number : ℕ) → Edition → Bool
 earlier number e = ltb e.message number
 
 abbrev pub invariant-loop-i : goal.invariant-loop-i
-invariant-loop-i l = (l.i ≤ 32) × (all (earlier l.number) (upto (edition_in l.numbers) l.i (32 - l.i)) ≡ all (earlier l.number) (venue_of l.numbers).editions)
-
-abbrev pub decreases-loop-i : goal.decreases-loop-i
-decreases-loop-i l = 32 - l.i
+invariant-loop-i l = all (earlier l.number) (upto (edition_in l.numbers) l.i (32 - l.i)) ≡ all (earlier l.number) (venue_of l.numbers).editions

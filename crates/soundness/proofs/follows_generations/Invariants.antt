@@ -1,6 +1,6 @@
 use mathlib.Core.Path.{◌≡◌}
 use mathlib.Core.Bool.{Bool}
-use Prim.Native.Nat.{ℕ, ◌-◌}
+use Prim.Native.Nat.{ℕ}
 use lib.Dec.{ltb}
 use lib.ListN.{drop}
 use Rattle.rules.specs.declared.Generations.{Generations}
@@ -13,6 +13,3 @@ earlier number g = all (λ n. ltb n number) g.messages
 
 abbrev pub invariant-loop-s : goal.invariant-loop-s
 invariant-loop-s l = all (earlier l.number) (drop l.s (venue_of l.numbers).generations) ≡ all (earlier l.number) (venue_of l.numbers).generations
-
-abbrev pub decreases-loop-s : goal.decreases-loop-s
-decreases-loop-s l = 8 - l.s

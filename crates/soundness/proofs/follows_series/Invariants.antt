@@ -1,6 +1,6 @@
 use mathlib.Core.Path.{◌≡◌}
 use mathlib.Core.Bool.{Bool}
-use Prim.Native.Nat.{ℕ, ◌-◌}
+use Prim.Native.Nat.{ℕ}
 use lib.Dec.{ltb}
 use lib.ListN.{drop}
 use Rattle.rules.specs.Base.{all}
@@ -13,6 +13,3 @@ earlier number n = ltb n number
 
 abbrev pub invariant-loop-k : goal.invariant-loop-k
 invariant-loop-k l = all (earlier l.number) (drop l.k (generations_of (venue_of l.numbers) l.s)) ≡ all (earlier l.number) (generations_of (venue_of l.numbers) l.s)
-
-abbrev pub decreases-loop-k : goal.decreases-loop-k
-decreases-loop-k l = 20 - l.k

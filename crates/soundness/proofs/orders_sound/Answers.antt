@@ -1,7 +1,6 @@
 -- `soundness::orders_sound` meets its contract.
 use mathlib.Core.Path.{sym, ◌∙◌}
 use mathlib.Core.Bool.{◌&&◌}
-use native.Mathlib.Omega.{arith}
 use Rattle.rules.specs.Base.{all}
 use Rattle.rules.specs.Sound.{apart, leggings_sound, ids_distinct}
 use Rattle.rules.proofs.Tests.{and_in}
