@@ -44,17 +44,15 @@ pub const LAYER: usize = LAST + 1;
 fn wait_sound(lane: &[u8]) -> bool
     ensures { result ≡ wait_sound (lane_from lane.now).wait }
 {
-    let count = wire::u8_at(lane, COUNT) as usize;
+    let count = usize::from(wire::u8_at(lane, COUNT));
     if 8 < count {
         return false;
     }
-    let mut i: usize = 0;
-    while i < count {
+    for i in 0..count {
         let length = wire::u8_at(lane, PLACE * i + PLACES);
         if 32 < length {
             return false;
         }
-        i += 1;
     }
     true
 }
@@ -85,14 +83,12 @@ pub fn layer_sound(layer: &[u8], but: usize) -> bool
     if 3 < layer[LAST] {
         return false;
     }
-    let mut i: usize = 0;
-    while i < 4 {
+    for i in 0..4 {
         let at = LANE * i;
         let end = at + LANE;
         if !lane_sound(&layer[at..end], i, but) {
             return false;
         }
-        i += 1;
     }
     true
 }
@@ -128,7 +124,7 @@ pub fn join(lane: &mut [u8], message: &[u8])
     ensures { lane.new ≡ joined_bytes lane.old message.now }
 {
     let count = wire::u8_at(lane, COUNT);
-    let at = PLACE * (count as usize) + PLACES;
+    let at = PLACE * usize::from(count) + PLACES;
     let end = at + PLACE;
     put_place(&mut lane[at..end], message);
     lane[COUNT] = count + 1;
@@ -141,14 +137,12 @@ pub fn next_waiting(layer: &[u8]) -> usize
     requires { length layer.now ≡ layer_size }
     ensures { result ≡ next (layer_from layer.now) }
 {
-    let mut v = (wire::u8_at(layer, LAST) as usize + 1) % 4;
-    let mut i: usize = 0;
-    while i < 4 {
+    let after = usize::from(wire::u8_at(layer, LAST)) + 1;
+    for i in 0..4 {
+        let v = (after + i) % 4;
         if wire::u8_at(layer, LANE * v + COUNT) != 0 {
             return v;
         }
-        v = (v + 1) % 4;
-        i += 1;
     }
     4
 }
@@ -181,11 +175,7 @@ fn drop_head(lane: &mut [u8])
     ensures { lane.new ≡ take count_at lane.old ++ u8 (u8_at lane.old count_at - 1) ++ drop (places_at + place_size) lane.old ++ replicate place_size 0 }
 {
     let count = wire::u8_at(lane, COUNT);
-    let mut i: usize = 0;
-    while i < MOVED {
-        lane[PLACES + i] = lane[SECOND + i];
-        i += 1;
-    }
+    lane.copy_within(SECOND..LANE, PLACES);
     records::zero_from(lane, EIGHTH);
     lane[COUNT] = count - 1;
 }
