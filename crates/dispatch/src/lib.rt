@@ -102,13 +102,13 @@ pub fn turn(layer: &mut [u8], report: &mut [u8]) -> TurnReturned
     if layer.len() != lanes::LAYER {
         return idle(9, report);
     }
-    let v = lanes::next_waiting(layer);
-    if !lanes::layer_sound(layer, v) {
+    let next = lanes::next_waiting(layer);
+    if !lanes::layer_sound(layer, next.unwrap_or(4)) {
         return idle(9, report);
     }
-    if v == 4 {
+    let Some(v) = next else {
         return idle(0, report);
-    }
+    };
     let at = lanes::LANE * v;
     let end = at + lanes::LANE;
     let r = call_head(&layer[at..end], report);

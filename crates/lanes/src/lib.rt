@@ -5,9 +5,9 @@ ghost use Rattle.std.specs.Prelude.{◌≡◌, ◌++◌, ◌+◌, ◌-◌, lengt
 ghost use Rattle.rules.specs.Bytes.{u8_at, u32_at, u8, u32};
 ghost use Rattle.records.specs.Seen.{pasted};
 ghost use Rattle.venue_bytes.specs.Held.{venue_size};
-ghost use Rattle.layer.specs.Layer.{fresh_lane, wait_sound, next};
+ghost use Rattle.layer.specs.Layer.{fresh_lane, wait_sound};
 ghost use Rattle.lanes.specs.Memory.{done_at, count_at, places_at, place_size, lane_size, layer_size, lane_from, layer_from, place_bytes, lane_bytes, joined_bytes, venue_part, advanced_bytes};
-ghost use Rattle.lanes.specs.Checks.{lane_sound_but, layer_sound_but};
+ghost use Rattle.lanes.specs.Checks.{lane_sound_but, layer_sound_but, to_serve};
 ghost use Rattle.lanes.specs.Requirements.{DoneReady, WaitingReady, AdvanceReady, JoinReady, PlaceFor};
 
 use rules::Venue;
@@ -132,19 +132,19 @@ pub fn join(lane: &mut [u8], message: &[u8])
 
 // A turn --------------------------------------------------------------------------------------
 
-// The next venue after the last one served, going round, that has a message waiting; 4 if none has.
-pub fn next_waiting(layer: &[u8]) -> usize
+// The next venue after the last one served, going round, that has a message waiting.
+pub fn next_waiting(layer: &[u8]) -> Option<usize>
     requires { length layer.now ≡ layer_size }
-    ensures { result ≡ next (layer_from layer.now) }
+    ensures { result ≡ to_serve (layer_from layer.now) }
 {
     let after = usize::from(wire::u8_at(layer, LAST)) + 1;
     for i in 0..4 {
         let v = (after + i) % 4;
         if wire::u8_at(layer, LANE * v + COUNT) != 0 {
-            return v;
+            return Some(v);
         }
     }
-    4
+    None
 }
 
 // The venue after its message: its bytes are written where the message was accepted.

@@ -26,9 +26,9 @@ returns-then-not-lane_sound c = lane-fails _ _ c.loop-i.i c.loop-i-test.true
 
 pub loop-i-preserved : goal.loop-i-preserved
 loop-i-preserved c = passed-next _ _ c.loop-i.i c.loop-i.invariant
-      (sym (lent _ _ c.loop-i.i (lane_size * c.loop-i.i)
-      (lane_size * c.loop-i.i + lane_size - lane_size * c.loop-i.i) _ refl (omega arith)
-      c.loop-i-test.true c.lane_sound.ensures) ∙ c.if-not-lane_sound.false)
+    (sym (lent _ _ c.loop-i.i (lane_size * c.loop-i.i)
+    (lane_size * c.loop-i.i + lane_size - lane_size * c.loop-i.i) _ refl (omega arith)
+    c.loop-i-test.true c.lane_sound.ensures) ∙ c.if-not-lane_sound.false)
 
 pub returns : goal.returns
 returns c = all_pass _ _ c.loop-i.i (omega arith) c.loop-i.invariant (omega arith)
