@@ -24,8 +24,6 @@ use Rattle.sets.specs.Set.{WrittenSet, ReadSet, joined, set_of, carries, not_wri
 use Rattle.sets.specs.Promises.{most_set_bytes}
 use Rattle.sets.proofs.Most.{at_most}
 use Rattle.sets.proofs.ReadBack.{written-set, reads-back}
-use Rattle.set_writer.specs.declared.Saved.{Saved}
-use Rattle.set_writer.specs.Saving.{saved_of}
 use Rattle.set_reader.specs.declared.Resumed.{Resumed}
 use Rattle.set_reader.specs.Returned.{set_read}
 use Rattle.engine.specs.Hosts.{Hosted, leaves, one_hosted, saves_as, save_hosted, read_for, resumes_as, resume_hosted, Again, HeldAgain}
@@ -50,8 +48,8 @@ written-few n room v w =
     if-by (λ (x : WrittenSet). x.written ≤ most_set_bytes) (not (carries n v)) (λ _. omega arith)
     (λ _. if-by (λ (x : WrittenSet). x.written ≤ most_set_bytes) (ltb room (length (joined (set_of n v)))) (λ _. omega arith) (λ _. at_most n v w))
 
-pub saved-few : (memory : List ℕ) (n room : ℕ) (v : Venue) → v ≡ venue_from memory → (r : Saved) (m : List ℕ) → saved_of r m ≡ write_set n v room → r.written ≤ most_set_bytes
-saved-few memory n room v e r m s =
+pub saved-few : (memory : List ℕ) (n room : ℕ) (v : Venue) → v ≡ venue_from memory → (r : WrittenSet) → r ≡ write_set n v room → r.written ≤ most_set_bytes
+saved-few memory n room v e r s =
     let k : r.written ≡ (write_set n (venue_from memory) room).written = ap (λ (x : WrittenSet). x.written) (s ∙ ap (λ (w : Venue). write_set n w room) e) in
     let few = written-few n room (venue_from memory) (held-shaped memory) in
     omega arith
@@ -71,14 +69,19 @@ module _ (memory : List ℕ) (n : ℕ) (l z t y : List ℕ) (zeroed : z ≡ take
         ap₂ (saves_as 9) (zeros l z zeroed) (zeros t y cleared)
         ∙ rw (eq-eqb (length memory) venue_size size, ne_eqb (length t) 4 (λ e. h (long t y cleared ∙ e)))
 
+    -- a refused call's count of 0 stands there
+    pub none_counted : length y ≡ 4 → y ≡ u32 0
+    unfolding bytes
+    none_counted four = zeros t y cleared ∙ ap (λ (k : ℕ). replicate k 0) (sym (long t y cleared) ∙ four)
+
     -- the set is written or refused, and its count put
-    pub saves-all : length y ≡ 4 → (v : Venue) → v ≡ venue_from memory → (r : Saved) (m : List ℕ) → saved_of r m ≡ write_set n v (length z) →
-        (o : List ℕ) → o ≡ u32 r.written → saves_as r.number m o ≡ save_hosted memory n (length l) (length t)
+    pub saves-all : length y ≡ 4 → (v : Venue) → v ≡ venue_from memory → (r : WrittenSet) → r ≡ write_set n v (length z) →
+        (o : List ℕ) → o ≡ u32 r.written → saves_as r.number r.memory o ≡ save_hosted memory n (length l) (length t)
     unfolding save_hosted
-    saves-all four v e r m s o p =
+    saves-all four v e r s o p =
         let f : length t ≡ 4 = (let k = long t y cleared in omega arith) in
-        let w : saved_of r m ≡ write_set n (venue_from memory) (length l) = s ∙ ap₂ (write_set n) e (long l z zeroed) in
-        ap (saves_as r.number m) p ∙ ap (λ (x : WrittenSet). saves_as x.number x.memory (u32 x.written)) w
+        let w : r ≡ write_set n (venue_from memory) (length l) = s ∙ ap₂ (write_set n) e (long l z zeroed) in
+        ap (saves_as r.number r.memory) p ∙ ap (λ (x : WrittenSet). saves_as x.number x.memory (u32 x.written)) w
         ∙ rw (eq-eqb (length memory) venue_size size, eq-eqb (length t) 4 f)
 
 -- A set read ----------------------------------------------------------------------------------

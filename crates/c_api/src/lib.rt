@@ -112,9 +112,13 @@ pub fn legging_write_set(venue: &[u8], number: u32, set: &mut [u8], written: &mu
         return 9;
     }
     let given = venue_bytes::venue_from(venue);
-    let r = set_writer::write_set(given, number, set);
-    put_number(written, r.written as u32);
-    r.number
+    match set_writer::write_set(given, number, set) {
+        Ok(size) => {
+            put_number(written, size as u32);
+            0
+        }
+        Err(error) => error.number(),
+    }
 }
 
 // The venue and the message number of a set; 9, a fresh venue and 0 where the number's memory has other than four bytes.

@@ -1,5 +1,5 @@
 -- An arrival and a turn upon a memory, by the ways in which each ends.
-use Rattle.std.specs.Prelude.{if◌then◌else◌}
+use Rattle.std.specs.Prelude.{Option, None, Some, is_some, unwrap_or, if◌then◌else◌}
 use mathlib.Core.Path.{◌≡◌, refl, sym, ap, ap₂, ◌∙◌}
 use mathlib.Core.Bool.{Bool, true, false, true≢false}
 use mathlib.Core.Logic.{◌≢◌, inl, inr}
@@ -9,7 +9,7 @@ use native.Mathlib.Omega.{arith}
 use lib.Dec.{eqb}
 use lib.ListN.{length, set, take, drop}
 use lib.Seq.{get_or-take, get_or-drop}
-use borrow.Author.Tests.{eq-eqb, ne_eqb, eqb-true}
+use borrow.Author.Tests.{eq-eqb, ne_eqb, eqb-true, eqb-false}
 use borrow.Rule.Slice.PartMut.{put_mid}
 use Rattle.rules.specs.declared.Returned.{Returned}
 use Rattle.rules.specs.Bytes.{u8_at, u32_at}
@@ -23,7 +23,7 @@ use Rattle.layer.proofs.Ways.{ending, not_done, Did, does, turn_by}
 use Rattle.layer.proofs.PromisesLaws.{gets-nine, each_lane, lane-wait, answered}
 use Rattle.dispatch.specs.declared.TurnReturned.{TurnReturned}
 use Rattle.lanes.specs.Memory.{done_at, count_at, places_at, lane_size, last_at, layer_size, place_from, lane_part, layer_from, with_part, joined_bytes, head_called, advanced_bytes}
-use Rattle.lanes.specs.Checks.{layer_sound_but}
+use Rattle.lanes.specs.Checks.{layer_sound_but, to_serve}
 use Rattle.dispatch.specs.Hosts.{reply_of, arrive_held, TurnReply, idle_returned, turn_reply_of, served_bytes, turn_leaves, turn_held}
 use Rattle.lanes.proofs.Bytes.{part-back}
 use Rattle.lanes.proofs.Figures.{waits-at}
@@ -134,6 +134,39 @@ pub record Serves (m : List ℕ) (v : ℕ) : Type 0 where
   pub checked : layer_sound_but v (layer_from m) ≡ true
   pub here : v ≡ next (layer_from m)
   pub some : v ≢ 4
+
+-- the venue that is found
+pub serving : (m : List ℕ) (v b : ℕ) (o : Option ℕ) (r : Bool) → length m ≡ layer_size → o ≡ Some v → o ≡ to_serve (layer_from m) → b ≡ unwrap_or o 4 →
+    r ≡ layer_sound_but b (layer_from m) → r ≡ true → Serves m v
+serving m v b o r size one told f checked sound = go (eqb (next (layer_from m)) 4) refl
+  where
+    e : Some v ≡ to_serve (layer_from m)
+    e = sym one ∙ told
+
+    but : b ≡ v
+    but = f ∙ ap (λ (x : Option ℕ). unwrap_or x 4) one
+
+    go : (t : Bool) → eqb (next (layer_from m)) 4 ≡ t → Serves m v
+    go true q = absurd (no (e ∙ ap (λ (t : Bool). if t then None else Some (next (layer_from m))) q))
+      where
+        no : Some v ≡ None → ⊥
+        no z = true≢false (ap is_some z)
+    go false q =
+        let here : v ≡ next (layer_from m) = ap (λ (o : Option ℕ). unwrap_or o 0) (e ∙ ap (λ (t : Bool). if t then None else Some (next (layer_from m))) q) in
+        record {
+          size = size;
+          checked = ap (λ (k : ℕ). layer_sound_but k (layer_from m)) (sym but) ∙ sym checked ∙ sound;
+          here = here;
+          some = λ z. eqb-false (next (layer_from m)) 4 q (sym here ∙ z);
+        }
+
+-- no message waits
+pub idles : (m : List ℕ) → None ≡ to_serve (layer_from m) → next (layer_from m) ≡ 4
+idles m e = go (eqb (next (layer_from m)) 4) refl
+  where
+    go : (t : Bool) → eqb (next (layer_from m)) 4 ≡ t → next (layer_from m) ≡ 4
+    go true q = eqb-true (next (layer_from m)) 4 q
+    go false q = absurd (true≢false (ap is_some (sym (e ∙ ap (λ (t : Bool). if t then None else Some (next (layer_from m))) q))))
 
 -- its lane, as it is lent
 module _ (m : List ℕ) (v : ℕ) (x : Serves m v) where

@@ -1,14 +1,13 @@
 -- A host's fresh layer.
 use mathlib.Core.Path.{◌≡◌, refl, sym, ap, ◌∙◌}
 use mathlib.Core.List.{List, [], ◌∷◌, ◌++◌}
-use Prim.Native.Nat.{ℕ, suc, ◌+◌, ◌-◌, ◌*◌, ◌≤◌, ◌<◌}
+use Prim.Native.Nat.{ℕ, suc, ◌+◌, ◌*◌, ◌≤◌, ◌<◌}
 use native.Mathlib.Omega.{arith}
 use lib.ListN.{length, get_or, set, drop, replicate}
 use lib.Seq.{drop-cons, set_at}
 use borrow.Author.Tests.{eq-eqb, ne_eqb}
 use borrow.Rule.Slice.PartMut.{put_mid}
 use Rattle.rules.specs.Bytes.{bytes}
-use Rattle.rules.specs.Calls.{one}
 use Rattle.records.specs.Seen.{Seen, seen, pasted}
 use Rattle.records.proofs.SeenLaws.{plus-in}
 use Rattle.venue_bytes.specs.Held.{rows}

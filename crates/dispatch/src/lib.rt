@@ -19,12 +19,10 @@ pub fn legging_layer_fresh(layer: &mut [u8]) -> u8
     if layer.len() != lanes::LAYER {
         return 9;
     }
-    let mut i: usize = 0;
-    while i < 4 {
+    for i in 0..4 {
         let at = lanes::LANE * i;
         let end = at + lanes::LANE;
         lanes::fresh_lane(&mut layer[at..end]);
-        i += 1;
     }
     layer[lanes::LAST] = 3;
     0
@@ -70,11 +68,11 @@ fn call_head(lane: &[u8], report: &mut [u8]) -> Returned
     let venue = venue_bytes::venue_from(&lane[..end]);
     let before = wire::u32_at(lane, lanes::DONE);
     let from = lanes::PLACES + 1;
-    let to = from + wire::u8_at(lane, lanes::PLACES) as usize;
+    let to = from + usize::from(wire::u8_at(lane, lanes::PLACES));
     engine::one_message(venue, before, &lane[from..to], report)
 }
 
-// What a turn returns beside the layer and the report; 4 is served where no message was done.
+// What a turn returns beside the layer and the report. Where no message was done, served is 4, the number that `legging_turn` tells a host in C.
 #[derive(Clone, Copy)]
 pub struct TurnReturned {
     pub number: u8,
@@ -104,13 +102,13 @@ pub fn turn(layer: &mut [u8], report: &mut [u8]) -> TurnReturned
     if layer.len() != lanes::LAYER {
         return idle(9, report);
     }
-    let v = lanes::next_waiting(layer);
-    if !lanes::layer_sound(layer, v) {
+    let next = lanes::next_waiting(layer);
+    if !lanes::layer_sound(layer, next.unwrap_or(4)) {
         return idle(9, report);
     }
-    if v == 4 {
+    let Some(v) = next else {
         return idle(0, report);
-    }
+    };
     let at = lanes::LANE * v;
     let end = at + lanes::LANE;
     let r = call_head(&layer[at..end], report);
@@ -147,5 +145,5 @@ pub fn legging_turn(layer: &mut [u8], report: &mut [u8]) -> u32
     ensures { told_of result layer.new report.new ≡ host_turn (turn_held layer.old (length report.old)) }
 {
     let r = turn(layer, report);
-    r.number as u32 + 256 * (r.served as u32)
+    u32::from(r.number) + 256 * u32::from(r.served)
 }

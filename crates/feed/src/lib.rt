@@ -10,7 +10,7 @@ ghost use Rattle.feed.specs.Requirements.{LineReady, LinesReady, LinesLeft};
 
 use reader::Head;
 
-// The number at a position; 0 where its four bytes are not there.
+// The number at a position; 0 where its four bytes are not there, as definition `number_of` has it. No message of a line has number 0.
 fn number_at(line: &[u8], at: usize) -> u32
     ensures { result ≡ number_of (drop at line.now) }
 {
@@ -38,6 +38,7 @@ fn part_length(line: &[u8], at: usize, last: u32) -> Option<u16>
 }
 
 // 21's test of a whole line.
+// The walk is by position, as each message's length says where the next number stands, and what is torn ends it.
 pub fn is_faultless(line: &[u8]) -> bool
     ensures { result ≡ faultless line.now }
 {

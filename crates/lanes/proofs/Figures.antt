@@ -24,7 +24,8 @@ use Rattle.venue_bytes.specs.Held.{venue_size, venue_from}
 use Rattle.layer.proofs.Ways.{ready}
 use Rattle.layer.proofs.PromisesLaws.{gets_none}
 use Rattle.lanes.specs.Memory.{done_at, count_at, places_at, place_size, lane_size, last_at, message_from, place_from, lane_from, lane_part, lane_of, layer_from}
-use Rattle.lanes.specs.Checks.{lane_sound_but, of_four, layer_sound_but}
+use Rattle.std.specs.Prelude.{Option, None, Some}
+use Rattle.lanes.specs.Checks.{to_serve, lane_sound_but, of_four, layer_sound_but}
 
 -- Four of them --------------------------------------------------------------------------------
 
@@ -141,6 +142,13 @@ module _ (m : List ℕ) where
   pub search-none : (v i : ℕ) → Searching v i → 4 ≤ i → 4 ≡ next (layer_from m)
   unfolding first_waiting
   search-none v i s h = let z : 4 - i ≡ 0 = (let f = s.few in omega arith) in ap (λ (k : ℕ). first_waiting (layer_from m) k v) (sym z) ∙ s.is
+
+-- the venue that is found, or none
+pub waits_for : (m : List ℕ) (v : ℕ) → v < 4 → v ≡ next (layer_from m) → Some v ≡ to_serve (layer_from m)
+waits_for m v h e = ap Some e ∙ sym (rw (ne_eqb (next (layer_from m)) 4 (λ z. omega arith)) refl)
+
+pub waits_none : (m : List ℕ) → 4 ≡ next (layer_from m) → ◌≡◌ {A = Option ℕ} None (to_serve (layer_from m))
+waits_none m e = sym (rw (eq-eqb (next (layer_from m)) 4 (sym e)) refl)
 
 -- A lane, and all of them ---------------------------------------------------------------------
 

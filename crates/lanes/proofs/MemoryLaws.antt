@@ -4,9 +4,8 @@ use mathlib.Core.Logic.{◌≢◌}
 use mathlib.Core.List.{List, [], ◌∷◌, ◌++◌, append_assoc}
 use Prim.Native.Nat.{ℕ, ◌+◌, ◌-◌, ◌*◌, ◌≤◌, ◌<◌}
 use native.Mathlib.Omega.{arith}
-use native.Mathlib.Numerals.{add-one}
 use lib.ListN.{length, get_or, set, take, drop, replicate, length-append, length-drop, length-set, take-append-drop}
-use lib.Seq.{length-take-le, take_all, take-suc, take_at, drop_at, drop-drop, set_at, get_or-drop, paste, paste-zero, paste-suc, take-paste, drop-paste}
+use lib.Seq.{length-take-le, take_all, take-suc, take_at, drop_at, drop-drop, set_at, paste, take-paste}
 use borrow.Author.Tests.{eq-eqb, ne_eqb}
 use borrow.Rule.Slice.PartMut.{put_mid}
 use Rattle.rules.specs.declared.Venue.{Venue}
@@ -49,12 +48,13 @@ place-put p m p1 p2 end size short e1 e2 =
     first [] x h = absurd (omega arith)
     first (y ∷ l) x h = refl
 
-pub joins-put : (bs m ys : List ℕ) (n k : ℕ) → length m ≤ 32 → n ≡ u8_at bs count_at → k ≡ place_size → ys ≡ place_bytes m →
-    set (put_mid (place_size * n + places_at) k bs ys) count_at (n + 1) ≡ joined_bytes bs m
+pub joins-put : (bs m ys : List ℕ) (i n k : ℕ) → length m ≤ 32 → i ≡ n → n ≡ u8_at bs count_at → k ≡ place_size → ys ≡ place_bytes m →
+    set (put_mid (place_size * i + places_at) k bs ys) count_at (n + 1) ≡ joined_bytes bs m
 unfolding joined_bytes
-joins-put bs m ys n k short e f g =
+joins-put bs m ys i n k short at e f g =
     let s : k ≡ length ys = f ∙ sym (ap length g ∙ place-size m short) in
-    ap (λ (x : List ℕ). set x count_at (n + 1)) (part-back bs ys (place_size * n + places_at) k s ∙ ap (pasted bs (place_size * n + places_at)) g)
+    ap (λ (x : ℕ). set (put_mid (place_size * x + places_at) k bs ys) count_at (n + 1)) at
+    ∙ ap (λ (x : List ℕ). set x count_at (n + 1)) (part-back bs ys (place_size * n + places_at) k s ∙ ap (pasted bs (place_size * n + places_at)) g)
     ∙ ap (λ (x : ℕ). set (pasted bs (place_size * x + places_at) (place_bytes m)) count_at (x + 1)) e
 
 -- A lane advances -----------------------------------------------------------------------------
@@ -76,57 +76,31 @@ done-put bs m x end n size e p q =
     let k : length x ≡ 4 = ap length p in
     (put_in bs m x done_at end q (omega arith)).0 ∙ ap (pasted bs done_at) (p ∙ ap (λ (y : ℕ). u32 (y + 1)) e)
 
--- the places one place down, byte by byte
+-- the places one place down
 abbrev others : List ℕ → List ℕ
 others bs = drop (places_at + place_size) bs
 
-pub record Moved (bs m : List ℕ) (i : ℕ) : Type 0 where
-  pub few : i ≤ 7 * place_size
-  pub is : m ≡ paste bs places_at (others bs) i
-  pub room : length m ≡ length bs
-
-pub moved_none : (bs : List ℕ) → Moved bs bs 0
-moved_none bs = record { few = omega arith; is = paste-zero bs places_at (others bs); room = refl }
-
-module _ (bs : List ℕ) (size : length bs ≡ lane_size) (m : List ℕ) (i : ℕ) (w : Moved bs m i) where
+module _ (bs : List ℕ) (size : length bs ≡ lane_size) (m : List ℕ) (is : m ≡ paste bs places_at (others bs) (7 * place_size)) (room : length m ≡ length bs) where
   others-size : length (others bs) ≡ 7 * place_size
   others-size = length-drop (places_at + place_size) bs ∙ omega arith
 
-  pub moved-next : i < 7 * place_size → Moved bs (set m (places_at + i) (get_or m (places_at + place_size + i) 0)) (i + 1)
-  moved-next h =
-      let k = others-size in
-      let p : List ℕ = paste bs places_at (others bs) i in
-      let a : places_at + place_size + i ≡ places_at + i + place_size = omega arith in
-      let from : get_or m (places_at + place_size + i) 0 ≡ get_or (others bs) i 0 =
-      ap₂ (λ (x : List ℕ) (j : ℕ). get_or x j 0) w.is a ∙ sym (get_or-drop (places_at + i) p place_size 0)
-      ∙ ap (λ (x : List ℕ). get_or x place_size 0) (drop-paste bs places_at (others bs) i (omega arith) (omega arith))
-      ∙ get_or-drop (places_at + i) bs place_size 0 ∙ ap (λ (j : ℕ). get_or bs j 0) (sym a) ∙ sym (get_or-drop (places_at + place_size) bs i 0) in
-      record {
-        few = omega arith;
-        is = ap₂ (λ (x : List ℕ) (y : ℕ). set x (places_at + i) y) w.is from ∙ paste-suc bs places_at (others bs) i 0 (omega arith) (omega arith) ∙ rw add-one;
-        room = length-set m (places_at + i) (get_or m (places_at + place_size + i) 0) ∙ w.room;
-      }
-
   -- then the last place is zeroed, and the count is one less
-  pub moved_all : (z : List ℕ) (n : ℕ) → 7 * place_size ≤ i → n ≡ u8_at bs count_at → u8_at bs count_at ≤ 8 →
+  pub moved_all : (z : List ℕ) (n : ℕ) → n ≡ u8_at bs count_at → u8_at bs count_at ≤ 8 →
       z ≡ take (places_at + 7 * place_size) m ++ replicate (length m - (places_at + 7 * place_size)) 0 →
       set z count_at (n - 1) ≡ take count_at bs ++ u8 (u8_at bs count_at - 1) ++ others bs ++ replicate place_size 0
   unfolding bytes
-  moved_all z n h e few q =
+  moved_all z n e few q =
       let k = others-size in
-      let f = w.few in
-      let r = w.room in
-      let all : i ≡ 7 * place_size = omega arith in
       let left : length m - (places_at + 7 * place_size) ≡ place_size = omega arith in
       let whole : take (places_at + 7 * place_size) m ≡ take places_at bs ++ others bs =
-      ap (take (places_at + 7 * place_size)) (w.is ∙ ap (paste bs places_at (others bs)) all)
+      ap (take (places_at + 7 * place_size)) is
       ∙ take-paste bs places_at (others bs) (7 * place_size) (omega arith) (omega arith) ∙ ap (λ (x : List ℕ). take places_at bs ++ x) (take_all (7 * place_size) (others bs) (omega arith)) in
       let front : take places_at bs ≡ take count_at bs ++ (get_or bs count_at 0 ∷ []) = take-suc bs count_at 0 (omega arith) in
       let zeros : List ℕ = replicate place_size 0 in
       let group : (y : ℕ) → take count_at bs ++ (y ∷ []) ++ others bs ++ zeros ≡ take count_at bs ++ (y ∷ (others bs ++ zeros)) = λ y. simp append_assoc in
-      let is : z ≡ take count_at bs ++ (get_or bs count_at 0 ∷ (others bs ++ zeros)) =
+      let shown : z ≡ take count_at bs ++ (get_or bs count_at 0 ∷ (others bs ++ zeros)) =
       q ∙ ap₂ (λ (x : List ℕ) (j : ℕ). x ++ replicate j 0) (whole ∙ ap (λ (x : List ℕ). x ++ others bs) front) left ∙ group (get_or bs count_at 0) in
-      ap₂ (λ (x : List ℕ) (y : ℕ). set x count_at (y - 1)) is e
+      ap₂ (λ (x : List ℕ) (y : ℕ). set x count_at (y - 1)) shown e
       ∙ set_at (take count_at bs) (get_or bs count_at 0) (others bs ++ zeros) (u8_at bs count_at - 1) count_at (length-take-le count_at bs (omega arith))
       ∙ ap (λ (x : ℕ). take count_at bs ++ (x ∷ (others bs ++ zeros))) (sym (byte (u8_at bs count_at - 1) (omega arith))) ∙ sym (group _)
 

@@ -5,9 +5,9 @@ ghost use Rattle.std.specs.Prelude.{◌≡◌, ◌++◌, ◌+◌, ◌-◌, lengt
 ghost use Rattle.rules.specs.Bytes.{u8_at, u32_at, u8, u32};
 ghost use Rattle.records.specs.Seen.{pasted};
 ghost use Rattle.venue_bytes.specs.Held.{venue_size};
-ghost use Rattle.layer.specs.Layer.{fresh_lane, wait_sound, next};
+ghost use Rattle.layer.specs.Layer.{fresh_lane, wait_sound};
 ghost use Rattle.lanes.specs.Memory.{done_at, count_at, places_at, place_size, lane_size, layer_size, lane_from, layer_from, place_bytes, lane_bytes, joined_bytes, venue_part, advanced_bytes};
-ghost use Rattle.lanes.specs.Checks.{lane_sound_but, layer_sound_but};
+ghost use Rattle.lanes.specs.Checks.{lane_sound_but, layer_sound_but, to_serve};
 ghost use Rattle.lanes.specs.Requirements.{DoneReady, WaitingReady, AdvanceReady, JoinReady, PlaceFor};
 
 use rules::Venue;
@@ -44,17 +44,15 @@ pub const LAYER: usize = LAST + 1;
 fn wait_sound(lane: &[u8]) -> bool
     ensures { result ≡ wait_sound (lane_from lane.now).wait }
 {
-    let count = wire::u8_at(lane, COUNT) as usize;
+    let count = usize::from(wire::u8_at(lane, COUNT));
     if 8 < count {
         return false;
     }
-    let mut i: usize = 0;
-    while i < count {
+    for i in 0..count {
         let length = wire::u8_at(lane, PLACE * i + PLACES);
         if 32 < length {
             return false;
         }
-        i += 1;
     }
     true
 }
@@ -85,14 +83,12 @@ pub fn layer_sound(layer: &[u8], but: usize) -> bool
     if 3 < layer[LAST] {
         return false;
     }
-    let mut i: usize = 0;
-    while i < 4 {
+    for i in 0..4 {
         let at = LANE * i;
         let end = at + LANE;
         if !lane_sound(&layer[at..end], i, but) {
             return false;
         }
-        i += 1;
     }
     true
 }
@@ -128,7 +124,7 @@ pub fn join(lane: &mut [u8], message: &[u8])
     ensures { lane.new ≡ joined_bytes lane.old message.now }
 {
     let count = wire::u8_at(lane, COUNT);
-    let at = PLACE * (count as usize) + PLACES;
+    let at = PLACE * usize::from(count) + PLACES;
     let end = at + PLACE;
     put_place(&mut lane[at..end], message);
     lane[COUNT] = count + 1;
@@ -136,21 +132,19 @@ pub fn join(lane: &mut [u8], message: &[u8])
 
 // A turn --------------------------------------------------------------------------------------
 
-// The next venue after the last one served, going round, that has a message waiting; 4 if none has.
-pub fn next_waiting(layer: &[u8]) -> usize
+// The next venue after the last one served, going round, that has a message waiting.
+pub fn next_waiting(layer: &[u8]) -> Option<usize>
     requires { length layer.now ≡ layer_size }
-    ensures { result ≡ next (layer_from layer.now) }
+    ensures { result ≡ to_serve (layer_from layer.now) }
 {
-    let mut v = (wire::u8_at(layer, LAST) as usize + 1) % 4;
-    let mut i: usize = 0;
-    while i < 4 {
+    let after = usize::from(wire::u8_at(layer, LAST)) + 1;
+    for i in 0..4 {
+        let v = (after + i) % 4;
         if wire::u8_at(layer, LANE * v + COUNT) != 0 {
-            return v;
+            return Some(v);
         }
-        v = (v + 1) % 4;
-        i += 1;
     }
-    4
+    None
 }
 
 // The venue after its message: its bytes are written where the message was accepted.
@@ -181,11 +175,7 @@ fn drop_head(lane: &mut [u8])
     ensures { lane.new ≡ take count_at lane.old ++ u8 (u8_at lane.old count_at - 1) ++ drop (places_at + place_size) lane.old ++ replicate place_size 0 }
 {
     let count = wire::u8_at(lane, COUNT);
-    let mut i: usize = 0;
-    while i < MOVED {
-        lane[PLACES + i] = lane[SECOND + i];
-        i += 1;
-    }
+    lane.copy_within(SECOND..LANE, PLACES);
     records::zero_from(lane, EIGHTH);
     lane[COUNT] = count - 1;
 }

@@ -13,6 +13,7 @@ pub struct Reader<'a> {
 }
 
 // What stands at a position: nothing, a torn message, or a message of this length.
+// The end is no error and has no length, so a `Result` of a length would hold an `Option`.
 #[derive(Clone, Copy)]
 pub enum Head {
     End,
@@ -62,7 +63,7 @@ pub fn message_head(messages: &[u8], at: usize) -> Head
     next(reader_at(messages, at))
 }
 
-// The number that ends a run there; 0 too where it goes on.
+// The number that ends a run there; 0 too where it goes on. It is the number that a run returns, which is 0 at the end of its messages.
 pub fn head_number(head: Head) -> u8
     ensures { result ≡ head_number head }
 {

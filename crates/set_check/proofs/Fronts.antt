@@ -4,6 +4,7 @@ use mathlib.Core.Path.{◌≡◌, refl, sym, ap, ◌∙◌}
 use mathlib.Core.Bool.{Bool, true, false, ◌||◌}
 use mathlib.Core.List.{List}
 use Prim.Native.Nat.{ℕ, ◌≤◌, ◌<◌, ◌+◌}
+use native.Mathlib.Decide.{ℕ_discrete}
 use native.Mathlib.Omega.{arith}
 use lib.Dec.{eqb}
 use lib.ListN.{length, drop}
@@ -70,11 +71,14 @@ module _ (k : ℕ) where
 -- One of two kinds -----------------------------------------------------------------------------
 
 module _ (j k a b : ℕ) (same : j ≡ k) where
-  pub first-of-two : j ≡ a → true ≡ (eqb k a || eqb k b)
-  first-of-two e = rw (← same, eq-eqb j a e)
+  pub one_of_two : ((j ≡ a → ⊥) → j ≡ b) → true ≡ (eqb k a || eqb k b)
+  one_of_two e = elim (ℕ_discrete j a) [
+    | yes z ↦ rw (← same, eq-eqb j a z)
+    | no z ↦ rw (← same, ne_eqb j a z, eq-eqb j b (e z))
+  ]
 
-  pub second-of-two : (j ≡ a → ⊥) → eqb j b ≡ (eqb k a || eqb k b)
-  second-of-two e = rw (← same, ne_eqb j a e)
+  pub neither : (j ≡ a → ⊥) → (j ≡ b → ⊥) → false ≡ (eqb k a || eqb k b)
+  neither e f = rw (← same, ne_eqb j a e, ne_eqb j b f)
 
 -- What stands in front ------------------------------------------------------------------------
 

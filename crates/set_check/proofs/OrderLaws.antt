@@ -1,11 +1,12 @@
 -- What is asked of a record, case by case: its part, whether it may stand where it does, and whether what it tells has a place.
-use mathlib.Core.Path.{◌≡◌, refl, sym}
+use mathlib.Core.Path.{◌≡◌, refl, sym, ap}
 use mathlib.Core.Bool.{Bool, true, false, not, ◌&&◌, ◌||◌}
 use mathlib.Core.List.{List}
 use Prim.Native.Nat.{ℕ, ◌≤◌, ◌<◌, ◌+◌, ◌-◌, ◌/◌, ◌%◌}
 use native.Mathlib.Omega.{arith}
 use lib.Dec.{eqb, leb}
 use borrow.Author.Tests.{eq-eqb, ne_eqb, lt-ltb, le-ltb, le-leb, lt-leb, leb-true}
+use Rattle.std.specs.Int.{from_bool}
 use Rattle.rules.specs.Base.{held}
 use Rattle.rules.specs.Words.{within, is_series, is_side, one_to_one, place_of}
 use Rattle.rules.specs.Bytes.{kind_field, u8_at, u32_at}
@@ -18,6 +19,16 @@ use Rattle.set_check.specs.Order.{opens, of_this, same_series, may_stand, is_nex
 or-none : (b : Bool) → (b || false) ≡ b
 or-none true = refl
 or-none false = refl
+
+-- 1 for what is so
+pub one_few : (b : Bool) → from_bool b ≤ 1
+one_few true = omega arith
+one_few false = omega arith
+
+pub one_told : (b t : Bool) → b ≡ t → from_bool b ≡ one_if t
+unfolding one_if
+one_told true t e = ap one_if e
+one_told false t e = ap one_if e
 
 module _ (r : List ℕ) where
   -- Parts -------------------------------------------------------------------------------------

@@ -7,12 +7,12 @@ ghost use Rattle.rules.specs.Words.{place_of, is_series, is_side, one_to_one};
 ghost use Rattle.rules.specs.Bytes.{u8_at, u32_at, kind_field};
 ghost use Rattle.sets.specs.Set.{set_length, part, sort_key, generation_told, tells_edition, tells_regular, tells_complex, tells_legging, tells_generation, of_whole, of_short, has_place, complex_told};
 ghost use Rattle.sets.specs.Set.{row, held_in};
-ghost use Rattle.set_check.specs.Order.{error_number, number_of, front_of, none_read, opens, of_this, same_series, may_stand, is_next, one_if, opened_after, is_whole, run_with, onward, few, looked_at};
+ghost use Rattle.set_check.specs.Order.{error_number, number_of, front_of, none_read, opens, of_this, same_series, may_stand, is_next, opened_after, is_whole, run_with, onward, few, looked_at};
 
 // Records -------------------------------------------------------------------------------------
 
 // What stands at a position: the end of the set, what is torn or of a kind or length not the set's, or a record of this length.
-#[derive(Clone, Copy)]
+#[derive(Clone, Copy, PartialEq, Eq, Debug)]
 pub enum Front {
     End,
     Broken,
@@ -98,33 +98,21 @@ pub fn kind_of(r: &[u8]) -> u16
 pub fn tells_edition(r: &[u8]) -> bool
     ensures { result ≡ tells_edition r.now }
 {
-    let kind = kind_of(r);
-    if kind == 7 {
-        return true;
-    }
-    kind == 8
+    matches!(kind_of(r), 7 | 8)
 }
 
 // A record tells a resting regular order: of kind 1 or 9.
 pub fn tells_regular(r: &[u8]) -> bool
     ensures { result ≡ tells_regular r.now }
 {
-    let kind = kind_of(r);
-    if kind == 1 {
-        return true;
-    }
-    kind == 9
+    matches!(kind_of(r), 1 | 9)
 }
 
 // A record tells a resting complex order: of kind 2 or 10.
 pub fn tells_complex(r: &[u8]) -> bool
     ensures { result ≡ tells_complex r.now }
 {
-    let kind = kind_of(r);
-    if kind == 2 {
-        return true;
-    }
-    kind == 10
+    matches!(kind_of(r), 2 | 10)
 }
 
 // A record tells a legging order: of kind 82.
@@ -144,6 +132,7 @@ pub fn tells_generation(r: &[u8]) -> bool
 // Order ---------------------------------------------------------------------------------------
 
 // The part of a set that a record is of, after its first ones: editions, resting orders, legging orders, generations, the id reached.
+// It stays a number, as definition `part` has it: `may_stand` compares parts by it.
 fn part_of(r: &[u8]) -> u8
     ensures { result ≡ part r.now }
 {
@@ -256,7 +245,7 @@ fn is_opening(st: SetProgress, r: &[u8]) -> bool
         }
         return kind == 81;
     }
-    let due = 4 + (opened % 2) as u16;
+    let due = 4 + u16::from(opened % 2);
     if kind != due {
         return false;
     }
@@ -422,16 +411,6 @@ fn has_place(r: &[u8]) -> bool
 
 // One pass ------------------------------------------------------------------------------------
 
-// 1 for true, 0 for false.
-fn one_if(b: bool) -> u8
-    ensures { (result ≡ one_if b) × (result ≤ 1) }
-{
-    if b {
-        return 1;
-    }
-    0
-}
-
 // How many of the first records are read after one more record.
 fn opened_after(st: SetProgress) -> u8
     ensures { result ≡ opened_after st }
@@ -458,7 +437,7 @@ fn run_with(st: SetProgress, r: &[u8]) -> u8
     requires { few st ≡ true }
     ensures { result ≡ run_with st r.now }
 {
-    let more = one_if(tells_generation(r));
+    let more = u8::from(tells_generation(r));
     if same_series(st, r) {
         return st.run + more;
     }
@@ -486,10 +465,10 @@ fn passed(st: SetProgress, r: &[u8]) -> SetProgress
         part: part_of(r),
         key: sort_key(r),
         told: told_of(r),
-        editions: st.editions + one_if(tells_edition(r)),
-        regulars: st.regulars + one_if(tells_regular(r)),
-        complexes: st.complexes + one_if(tells_complex(r)),
-        leggings: st.leggings + one_if(tells_legging(r)),
+        editions: st.editions + u8::from(tells_edition(r)),
+        regulars: st.regulars + u8::from(tells_regular(r)),
+        complexes: st.complexes + u8::from(tells_complex(r)),
+        leggings: st.leggings + u8::from(tells_legging(r)),
         run: run_with(st, r),
         placed: still_placed(st, r),
     }
@@ -547,6 +526,7 @@ fn ended(st: SetProgress) -> Result<(), SetError>
 }
 
 // Whether a memory holds a set, and one that a venue has a place for.
+// The walk is by position, as each record's length says where the next one stands, and what is broken ends it.
 pub fn look(memory: &[u8]) -> Result<(), SetError>
     ensures { number_of result ≡ looked_at none_read (held_in memory.now) }
 {
@@ -558,7 +538,7 @@ pub fn look(memory: &[u8]) -> Result<(), SetError>
             Front::End => return ended(st),
             Front::Broken => return Err(SetError::NoSet),
             Front::Record(size) => {
-                let next = at + size as usize;
+                let next = at + usize::from(size);
                 if !is_next(st, &memory[at..next]) {
                     return Err(SetError::NoSet);
                 }

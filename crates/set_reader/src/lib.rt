@@ -9,6 +9,7 @@ ghost use Rattle.set_reader.specs.Returned.{set_read};
 use rules::Venue;
 
 // What a reading call returns: its number, the venue, and its message number.
+// A refused call gives a venue and a number too, so a `Result` would have each caller make them again from the error.
 #[derive(Clone, Copy)]
 pub struct Resumed {
     pub number: u8,

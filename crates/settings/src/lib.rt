@@ -24,22 +24,19 @@ fn value_after(e: Edition, number: u32, f: u8, x: u8) -> u8
 }
 
 // A figure in force at a message number: the value of its last edition entered by then, else that of edition 0.
-fn value_at(editions: [Edition; 32], number: u32, f: u8) -> u8
-    ensures { result ≡ value_at editions number f }
+fn value_at(editions: &[Edition; 32], number: u32, f: u8) -> u8
+    ensures { result ≡ value_at editions.now number f }
 {
     let mut x = arithmetic::base_figure(f);
-    let mut i: usize = 0;
-    while i < 32 {
-        let e = editions[i];
-        x = value_after(e, number, f, x);
-        i += 1;
+    for i in 0..32 {
+        x = value_after(editions[i], number, f, x);
     }
     x
 }
 
-// The eight increments.
-fn increments_at(editions: [Edition; 32], number: u32) -> [u8; 8]
-    ensures { result ≡ map (value_at editions number) (0 ∷ 1 ∷ 2 ∷ 3 ∷ 4 ∷ 5 ∷ 6 ∷ 7 ∷ []) }
+// The eight increments. Each is written out, since a closure for `array::from_fn` would have to take the index, a `usize`, back to a figure.
+fn increments_at(editions: &[Edition; 32], number: u32) -> [u8; 8]
+    ensures { result ≡ map (value_at editions.now number) (0 ∷ 1 ∷ 2 ∷ 3 ∷ 4 ∷ 5 ∷ 6 ∷ 7 ∷ []) }
 {
     [
         value_at(editions, number, 0),
@@ -59,16 +56,14 @@ pub fn settings(venue: Venue, number: u32) -> Settings
 {
     let mut numbers = [0u32; places::SIZE];
     if !soundness::load_sound(&mut numbers, venue) {
-        let none = [0u8; 8];
         return Settings {
             number: 9,
-            increments: none,
+            increments: [0; 8],
             percent: 0,
         };
     }
-    let editions = venue.editions;
-    let increments = increments_at(editions, number);
-    let percent = value_at(editions, number, 8);
+    let increments = increments_at(&venue.editions, number);
+    let percent = value_at(&venue.editions, number, 8);
     Settings {
         number: 0,
         increments,

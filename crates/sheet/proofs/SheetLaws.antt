@@ -2,7 +2,7 @@
 use mathlib.Core.Path.{◌≡◌, refl, sym, ap, ap₂, ◌∙◌}
 use mathlib.Core.Bool.{Bool, true, false}
 use mathlib.Core.Logic.{◌≢◌}
-use mathlib.Core.List.{List, [], ◌++◌, append_assoc, append-nil}
+use mathlib.Core.List.{List, ◌++◌, append_assoc, append-nil}
 use Prim.Native.Nat.{ℕ, suc, ◌+◌, ◌-◌, ◌≤◌, ◌<◌}
 use native.Mathlib.Omega.{arith}
 use lib.Dec.{eqb}
@@ -209,16 +209,3 @@ pub record Going (m : List ℕ) (p : Progress) (report text : List ℕ) : Type 0
   pub stands : Stands m p
   pub report-length : length report ≡ most_report_bytes
   pub text-length : length text ≡ most_text
-
-pub going_on : (m : List ℕ) (p : Progress) (report text : List ℕ) → Going m p report text → (r : Progress) (report2 text2 : List ℕ) →
-    Prints m p text2 r → length report2 ≡ length report → length text2 ≡ length text → Going m r report2 text2
-going_on m p report text g r report2 text2 x a b = record {
-  printed = g.printed ++ take r.written text2;
-  so_far = more text2 r g.so_far x;
-  stands = x.stands;
-  report-length = a ∙ g.report-length;
-  text-length = b ∙ g.text-length;
-}
-
-pub going_start : (m report text : List ℕ) → length report ≡ most_report_bytes → length text ≡ most_text → Going m started report text
-going_start m report text a b = record { printed = []; so_far = none_printed; stands = stands-start m; report-length = a; text-length = b }

@@ -39,7 +39,7 @@ fn put_message(out: &mut [u8], at: usize, place: u8) -> usize
     records::put(out, at, &list[starts[i]..starts[i + 1]])
 }
 
-// A session's messages at the start of a memory, and how many bytes they are.
+// A session's messages at the start of a memory, and how many bytes they are. Each length has an arm, as a session is no array of its places.
 fn put_messages(out: &mut [u8], s: Session) -> usize
     requires { MessagesRoom s out.old }
     ensures { Stands (messages_of (places_of s)) out.new result }

@@ -91,6 +91,7 @@ fn regulars_sound(l: &[Regular; 128], last: u32) -> bool
 }
 
 // The complex places are sound: ids rise, fields are in their ranges, and free places are blank and last.
+// One function for both books would need a trait that tells id, quantity and what is asked of each, and be no shorter.
 fn complexes_sound(l: &[Complex; 32], last: u32) -> bool
     ensures { result ≡ complexes_from last 0 l.now }
 {

@@ -31,6 +31,7 @@ fn digit(n: u32) -> u8
 }
 
 // A number in decimal.
+// Crate itoa prints a number whole. Here a number that does not fit is cut where the memory ends, so each digit is put by itself.
 fn put_number(out: &mut [u8], at: usize, n: u32) -> usize
     ensures { seen out.new result ≡ seen out.old at types decimal n }
 {
@@ -159,6 +160,7 @@ fn put_generated(out: &mut [u8], at: usize, s: &[u8]) -> usize
 }
 
 // The cause's number, which a record that was written has as it is; a byte that is no cause reads as 10.
+// To make a `Cause` of the byte would take a `match` of nine arms, and its number another.
 fn cause_at(s: &[u8], at: usize) -> u32
     ensures { result ≡ cause_number (cause_of (u8_at s.now at)) }
 {

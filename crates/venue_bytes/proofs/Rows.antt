@@ -95,8 +95,3 @@ rows-read {A} read from width later short s i x p =
     let row : List ℕ = take (length s - (width * i + from)) (drop (width * i + from) s) in
     row_read (read row) later short s i x p
     ∙ ap (λ (g : List ℕ → A). row_at g later short s i) (row_read read from width s i (read row) refl)
-
--- bytes written at a position are the row's
-pub row_put : (l m : List ℕ) (at end : ℕ) (a b : List ℕ) → seen m end ≡ seen l at plus a → a ≡ b → m ≡ (seen l at plus b).memory
-unfolding seen
-row_put l m at end a b e p = ap (λ (w : Seen). w.memory) (e ∙ ap (λ (x : List ℕ). seen l at plus x) p)

@@ -1,5 +1,5 @@
 -- `dispatch::call_head` meets its contract.
-use mathlib.Core.Path.{sym}
+use mathlib.Core.Path.{sym, ◌∙◌}
 use Prim.Native.Nat.{◌+◌, ◌-◌}
 use lib.ListN.{take, drop}
 use lib.Seq.{length-take-le}
@@ -18,10 +18,10 @@ venue_from-venue-requires c = let p = c.requires.whole in length-take-le venue_s
 
 pub returns : goal.returns
 returns c = let bs = c.args.lane.now in
-    let p = c.requires in let n = c.u8_at.result in
+    let p = c.requires in let n = c.from.result in
     called-head bs (take (places_at + 1 + n - (places_at + 1)) (drop (places_at + 1) bs)) c.one_message.new.report _
     c.u32_at-before.result
     c.venue_from-venue.result c.one_message.result
     c.venue_from-venue.ensures
     c.u32_at-before.ensures
-    (head-lent bs n (places_at + 1 + n - (places_at + 1)) c.u8_at.ensures (omega arith) (omega arith)) c.one_message.ensures
+    (head-lent bs n (places_at + 1 + n - (places_at + 1)) (c.from.ensures ∙ c.u8_at.ensures) (omega arith) (omega arith)) c.one_message.ensures

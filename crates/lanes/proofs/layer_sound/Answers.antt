@@ -2,7 +2,6 @@
 use mathlib.Core.Path.{refl, sym, ◌∙◌}
 use Prim.Native.Nat.{◌+◌, ◌-◌, ◌*◌}
 use native.Mathlib.Omega.{arith}
-use borrow.Author.Rules.{rules}
 use Rattle.lanes.specs.Memory.{lane_size}
 use Rattle.lanes.proofs.Bytes.{part_length}
 use Rattle.lanes.proofs.Figures.{lent, passed_none, passed-next, lane-fails, last-fails, all_pass}
@@ -12,7 +11,7 @@ pub returns-then-layer-gt3 : goal.returns-then-layer-gt3
 returns-then-layer-gt3 c = last-fails _ _ c.if-layer-gt3.true
 
 pub loop-i-init : goal.loop-i-init
-loop-i-init c = (search rules, passed_none _ _)
+loop-i-init c = passed_none _ _
 
 pub lane_sound-requires : goal.lane_sound-requires
 lane_sound-requires c = let p = c.requires in
@@ -26,13 +25,10 @@ returns-then-not-lane_sound c = lane-fails _ _ c.loop-i.i c.loop-i-test.true
     c.loop-i-test.true c.lane_sound.ensures) ∙ c.if-not-lane_sound.true)
 
 pub loop-i-preserved : goal.loop-i-preserved
-loop-i-preserved c = (
-  search rules,
-  passed-next _ _ c.loop-i.i c.loop-i.invariant.1
-      (sym (lent _ _ c.loop-i.i (lane_size * c.loop-i.i)
-      (lane_size * c.loop-i.i + lane_size - lane_size * c.loop-i.i) _ refl (omega arith)
-      c.loop-i-test.true c.lane_sound.ensures) ∙ c.if-not-lane_sound.false),
-)
+loop-i-preserved c = passed-next _ _ c.loop-i.i c.loop-i.invariant
+    (sym (lent _ _ c.loop-i.i (lane_size * c.loop-i.i)
+    (lane_size * c.loop-i.i + lane_size - lane_size * c.loop-i.i) _ refl (omega arith)
+    c.loop-i-test.true c.lane_sound.ensures) ∙ c.if-not-lane_sound.false)
 
 pub returns : goal.returns
-returns c = all_pass _ _ c.loop-i.i (omega arith) c.loop-i.invariant.1 (omega arith)
+returns c = all_pass _ _ c.loop-i.i (omega arith) c.loop-i.invariant (omega arith)

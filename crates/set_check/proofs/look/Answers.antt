@@ -2,7 +2,7 @@
 use Prim.Native.Nat.{ℕ, ◌+◌, ◌-◌}
 use mathlib.Core.List.{List}
 use Prim.Native.Nat.{ℕ, ◌-◌}
-use lib.ListN.{length-drop}
+use lib.ListN.{drop, length-drop}
 use lib.Seq.{drop-drop}
 use Rattle.set_check.proofs.Walks.{held-ended, held-broken, in-front, step-not, step-many, step-on}
 use native.Mathlib.Omega.{arith}
@@ -36,7 +36,7 @@ returns-then-not-is_next c = let w = in-front _ _
     let x = w.four in let y = w.fits in let l = length-drop c.loop-size.at
     c.args.memory.now in
     step-not _ _ _ (sym c.front_at-front.ensures ∙ c.in-Record.is)
-    (c.loop-size.at + c.in-Record.size -
+    (c.loop-size.at + c.from.result -
     c.loop-size.at) (sym c.is_next.ensures ∙ c.if-not-is_next.true)
     (omega arith) ∙ c.loop-size.invariant.2
 
@@ -54,7 +54,7 @@ returns-then-not-are_few c = let w = in-front _ _ (sym c.front_at-front.ensures
     step-many _ _ _ (sym c.front_at-front.ensures
     ∙ c.in-Record.is)
     (c.loop-size.at +
-    c.in-Record.size -
+    c.from.result -
     c.loop-size.at) _ c.passed-st.ensures
     (sym c.are_few.ensures ∙ c.if-not-are_few.true) (omega arith)
     ∙ c.loop-size.invariant.2
@@ -75,13 +75,14 @@ loop-size-preserved c = let w = in-front _ _ (sym c.front_at-front.ensures
       omega arith,
       f,
       ap (λ (z : List ℕ). looked_at c.passed-st.result (held_in z))
-          (sym (drop-drop c.in-Record.size
+          (ap (λ (k : ℕ). drop (c.loop-size.at + k) c.args.memory.now) c.from.ensures
+          ∙ sym (drop-drop c.in-Record.size
           c.loop-size.at
           c.args.memory.now))
           ∙ step-on _ _ _ (sym c.front_at-front.ensures
           ∙ c.in-Record.is)
           (c.loop-size.at +
-          c.in-Record.size -
+          c.from.result -
           c.loop-size.at) _ c.passed-st.ensures
           (sym c.is_next.ensures ∙ c.if-not-is_next.false) f (omega arith)
           ∙ c.loop-size.invariant.2,

@@ -1,13 +1,17 @@
 -- `set_check::tells_edition` meets its contract.
 use native.Mathlib.Omega.{arith}
-use Rattle.set_check.proofs.Fronts.{first-of-two, second-of-two}
 use Rattle.sets.specs.Set.{tells_edition}
+use Rattle.set_check.proofs.Fronts.{one_of_two, neither}
 use Rattle.set_check.proofs.tells_edition.Goals as goal
 
-pub returns-then-kind-eq7 : goal.returns-then-kind-eq7
+pub returns-in-7 : goal.returns-in-7
 unfolding tells_edition
-returns-then-kind-eq7 c = first-of-two _ _ _ _ c.kind_of-kind.ensures (omega arith)
+returns-in-7 c = one_of_two _ _ _ _ c.kind_of.ensures (λ n. omega arith)
 
-pub returns : goal.returns
+pub returns-in_default : goal.returns-in_default
 unfolding tells_edition
-returns c = second-of-two _ _ _ _ c.kind_of-kind.ensures (λ e. omega arith)
+returns-in_default c = neither _ _ _ _ c.kind_of.ensures (λ e. omega arith) (λ e. omega arith)
+
+pub returns-in_default-2 : goal.returns-in_default-2
+unfolding tells_edition
+returns-in_default-2 c = neither _ _ _ _ c.kind_of.ensures (λ e. omega arith) (λ e. omega arith)

@@ -1,13 +1,13 @@
 -- `set_check::tells_regular` meets its contract.
 use native.Mathlib.Omega.{arith}
-use Rattle.set_check.proofs.Fronts.{first-of-two, second-of-two}
 use Rattle.sets.specs.Set.{tells_regular}
+use Rattle.set_check.proofs.Fronts.{one_of_two, neither}
 use Rattle.set_check.proofs.tells_regular.Goals as goal
 
-pub returns-then-kind-eq1 : goal.returns-then-kind-eq1
+pub returns-in-1 : goal.returns-in-1
 unfolding tells_regular
-returns-then-kind-eq1 c = first-of-two _ _ _ _ c.kind_of-kind.ensures (omega arith)
+returns-in-1 c = one_of_two _ _ _ _ c.kind_of.ensures (λ n. omega arith)
 
-pub returns : goal.returns
+pub returns-in_default : goal.returns-in_default
 unfolding tells_regular
-returns c = second-of-two _ _ _ _ c.kind_of-kind.ensures (λ e. omega arith)
+returns-in_default c = neither _ _ _ _ c.kind_of.ensures (λ e. grind arith) (λ e. grind arith)

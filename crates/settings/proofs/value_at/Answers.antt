@@ -12,11 +12,11 @@ loop-i-init c = value-first _ _ _ _ c.base_figure-x.ensures
 pub loop-i-preserved : goal.loop-i-preserved
 loop-i-preserved c =
     let a = c.args in
-    let n : length a.editions ≡ 32 = search rules in
-    value-next a.number a.f c.loop-i.x _ a.editions c.loop-i.i (omega arith) c.value_after-x.ensures ∙ c.loop-i.invariant
+    let n : length a.editions.now ≡ 32 = search rules in
+    value-next a.number a.f c.loop-i.x _ a.editions.now c.loop-i.i (omega arith) c.value_after-x.ensures ∙ c.loop-i.invariant
 
 pub returns : goal.returns
 returns c =
     let a = c.args in
-    let n : length a.editions ≡ 32 = search rules in
-    value-last a.number a.f _ a.editions c.loop-i.i (omega arith) ∙ c.loop-i.invariant
+    let n : length a.editions.now ≡ 32 = search rules in
+    value-last a.number a.f _ a.editions.now c.loop-i.i (omega arith) ∙ c.loop-i.invariant

@@ -1,5 +1,4 @@
 use mathlib.Core.Path.{◌≡◌}
-use Prim.Native.Nat.{◌-◌}
 use lib.ListN.{drop}
 use Rattle.settings.specs.Forced.{value_at}
 use Rattle.settings.proofs.ForcedLaws.{value_from}
@@ -7,6 +6,3 @@ use Rattle.settings.proofs.value_at.Given as goal
 
 abbrev pub invariant-loop-i : goal.invariant-loop-i
 invariant-loop-i l = value_from l.number l.f l.x (drop l.i l.editions) ≡ value_at l.editions l.number l.f
-
-abbrev pub decreases-loop-i : goal.decreases-loop-i
-decreases-loop-i l = 32 - l.i
