@@ -61,6 +61,7 @@ pub fn trade_at_price(
     let other = opposite_of(side);
     let mut pos = at;
     let mut left = quantity;
+    // A turn takes as many contracts as one order shows, so the turns are not counted.
     while 0 < left {
         let found = book::first_for(numbers, series, other, price);
         let Some((j, m)) = found else {
