@@ -67,9 +67,6 @@ module _ {a b : ℤ} (fa : SFits w64 a) (fb : SFits w64 b) (h : nat_abs a + nat_
   pub diff_is : to_z w64 (of_z w64 (to_z w64 (of_z w64 a) -ℤ to_z w64 (of_z w64 b))) ≡ a -ℤ b
   diff_is = back diff-fits ∙ ap₂ (λ (x y : ℤ). x -ℤ y) (back fa) (back fb)
 
-  pub diff-abs : nat_abs (to_z w64 (of_z w64 (to_z w64 (of_z w64 a) -ℤ to_z w64 (of_z w64 b)))) ≤ 8589934590
-  diff-abs = rw diff_is (omega (arith, abs-add a (neg_ℤ b), abs_neg b))
-
 -- The price of a leg --------------------------------------------------------------------------
 
 -- displayed, a price above 100,254 is above 100,000, whatever the increment of one byte

@@ -24,7 +24,7 @@ use Rattle.rules.specs.Generation.{placed}
 use Rattle.rules.specs.Step.{mask}
 use Rattle.records.specs.Seen.{Seen, seen}
 use Rattle.records.specs.Stage.{stage, ◌does◌}
-use Rattle.records.proofs.StageLaws.{onward, does-nothing, does-room}
+use Rattle.records.proofs.StageLaws.{onward, does-nothing}
 use Rattle.places.specs.Layout.{size, legging_in, venue_of, SameCounts}
 use Rattle.removal.specs.Causes.{remove_place, verdict_by, cause_at, verdict_in}
 use Rattle.places.proofs.Beside.{counts-on}
@@ -148,9 +148,6 @@ module _ (f : ℕ → Legging → Option Cause) {b₀ out₀ b out : List ℕ} {
 
   pub removing-over : ((k : ℕ) (l : Legging) → n ≤ k → f k l ≡ None) → (stage (venue_of b) out pos ≡ seen out₀ at does remove f (venue_of b₀)) × SameCounts b₀ b
   removing-over h = ended (remove-over f (venue_of b) n h)
-
-  pub removing-room : length out ≡ length out₀
-  removing-room = does-room out out₀ pos at (remove_from f n (venue_of b)) (remove f (venue_of b₀)) i.left
 
 -- Two places ----------------------------------------------------------------------------------
 

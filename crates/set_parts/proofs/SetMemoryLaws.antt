@@ -152,10 +152,6 @@ adds-room w bs = go (leb (w.position + length bs) w.room)
     go true = refl
     go false = refl
 
-pub left-room : (whole left l₀ l : List ℕ) (at pos : ℕ) → Left whole left l₀ at l pos → length l ≡ length l₀
-left-room whole left l₀ l at pos i =
-    sym (adds-room (set_memory l pos) left ∙ memory-room l pos) ∙ ap (λ (w : SetMemory). w.room) i ∙ adds-room (set_memory l₀ at) whole ∙ memory-room l₀ at
-
 -- The whole -------------------------------------------------------------------------------------
 
 module _ (l m bs : List ℕ) (end : ℕ) (e : set_memory m end ≡ set_memory l 0 adds bs) where

@@ -54,9 +54,6 @@ pub record CausesFrom (b : List ℕ) (causes n : ℕ) : Type 0 where
   pub small : causes < 16 ^ (16 - n)
   pub cause : (k : ℕ) → n + k < 16 → cause_at causes k ≡ verdict_number (verdict (venue_of b) (n + k) (legging_in b (n + k)))
 
-pub causes-none : (b : List ℕ) → CausesFrom b 0 16
-causes-none b = record { few = omega arith; small = omega arith; cause = λ k q. absurd (omega arith) }
-
 module _ (b : List ℕ) (causes n : ℕ) (i : CausesFrom b causes n) (p : 0 < n) where
   -- there is room for one more
   pub causes-room : causes < 1152921504606846976
@@ -86,11 +83,6 @@ module _ (b : List ℕ) (causes n : ℕ) (i : CausesFrom b causes n) (p : 0 < n)
   pub causes-on : (x : ℕ) (r : Option Cause) → x ≡ verdict_number r → r ≡ verdict (venue_of b) (n - 1) (get_or (venue_of b).legging (n - 1) no_legging) → CausesFrom b (causes * 16 + x) (n - 1)
   causes-on x r ex er =
       causes-by x (omega (arith, number_small r)) (ex ∙ ap verdict_number (er ∙ ap (verdict (venue_of b) (n - 1)) (legging-at b (n - 1) (omega (arith, i.few)))))
-
-pub causes-all : (b : List ℕ) (causes n : ℕ) → CausesFrom b causes n → n ≡ 0 → (k : ℕ) → k < 16 → cause_at causes k ≡ verdict_number (verdict (venue_of b) k (legging_in b k))
-causes-all b causes n i z k q =
-    let e : n + k ≡ k = omega arith in
-    rw e at (i.cause k (omega arith))
 
 -- Whether the others stand --------------------------------------------------------------------
 

@@ -60,15 +60,6 @@ places-within f n (suc low) (suc high) (c ∷ l) h a m z =
     rw (a 0 (omega arith))
     (ap₂ places_from e r ∙ places-within f (suc n) low high l (omega arith) (λ i q. a (suc i) (omega arith)) (λ i p q. m (suc i) (omega arith) (omega arith)) (λ i q. z (suc i) (omega arith)))
 
--- one place more has an id up to x
-pub low-more : (b : List ℕ) (k x : ℕ) (c : Complex) → c ≡ complex_in b k → c.id ≤ x → ((i : ℕ) → i < k → (complex_in b i).id ≤ x) →
-    (i : ℕ) → i < k + 1 → (complex_in b i).id ≤ x
-low-more b k x c e h low i q = go (dec_lt i k)
-  where
-    go : Dec (i < k) → (complex_in b i).id ≤ x
-    go (yes y) = low i y
-    go (no y) = let z : i ≡ k = omega arith in rw (z, ← e) h
-
 module _ (b : List ℕ) (d : Dense b) (s : Rising (venue_of b).complex) (k : ℕ) (within : k ≤ complexes_used b)
     (low : (i : ℕ) → i < k → (complex_in b i).id ≤ (venue_of b).reached) (next : k < complexes_used b → (venue_of b).reached < (complex_in b k).id) where
   -- what stands at a place in use, and at one past them
@@ -214,9 +205,6 @@ module _ (f : ℕ → Venue → Effect) where
   pub each_of-none : (v : Venue) (k n : ℕ) → n ≡ 0 → nothing v ≡ each_of f (places_from k n) v
   unfolding each_of places_from
   each_of-none v k n e = rw e
-
-  pub each_of-same : (v : Venue) (j m k n : ℕ) → j ≡ k → m ≡ n → each_of f (places_from j m) v ≡ each_of f (places_from k n) v
-  each_of-same v j m k n e h = ap₂ (λ (a c : ℕ). each_of f (places_from a c) v) e h
 
   pub each_of-turn : (v : Venue) (s n k j : ℕ) → suc n ≡ s → suc k ≡ j → each_of f (places_from k s) v ≡ (f k v ⟫ each_of f (places_from j n))
   unfolding each_of places_from
