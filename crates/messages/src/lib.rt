@@ -27,7 +27,7 @@ fn frame_refusal(message: &[u8]) -> Result<(), Refusal>
     if size < 4 {
         return Err(Refusal::Torn);
     }
-    if message.len() < size as usize {
+    if message.len() < usize::from(size) {
         return Err(Refusal::Torn);
     }
     let kind = wire::half_at(message, 2);

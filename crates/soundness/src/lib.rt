@@ -30,6 +30,7 @@ fn on_increment(numbers: &Numbers, o: Regular) -> bool
 }
 
 // Every resting regular order's price is a multiple of its series' increment in force.
+// A pass that took its test as a closure would ask of it, at each place, that it may be called there and what it answers: more than this loop says.
 fn on_increments(numbers: &Numbers) -> bool
     requires { Figured numbers.now }
     ensures { result ≡ on_increments (venue_of numbers.now) }
@@ -217,7 +218,7 @@ pub fn load_sound(numbers: &mut Numbers, v: Venue) -> bool
     orders_sound(numbers)
 }
 
-// A message's number is above that of each edition kept.
+// A message's number is above that of each edition kept. It has a loop of its own for the reason that on_increments tells.
 fn follows_editions(numbers: &Numbers, number: u32) -> bool
     ensures { result ≡ all (λ e. ltb e.message number) (venue_of numbers.now).editions }
 {

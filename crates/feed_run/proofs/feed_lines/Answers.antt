@@ -20,9 +20,9 @@ at_ends-requires c = tt
 
 pub hand_out-t-requires : goal.hand_out-t-requires
 hand_out-t-requires c =
-    let ahead : let a = c.args in
-    let t = c.loop-numbers.t in t.main + t.spare < length a.main.now + length a.spare.now = let g = c.loop-numbers.invariant in not-ends _ _ _ _ g.main-in g.spare-in (sym c.at_ends.ensures ∙ c.loop-numbers-test.true) in
-    let g = c.loop-numbers.invariant in let w = g.sofar.within in let e = g.sofar.len in record {
+    let g = c.loop-numbers.invariant in
+    let ahead = not-ends _ _ _ _ g.main-in g.spare-in (sym c.at_ends.ensures ∙ c.loop-numbers-test.true) in
+    let w = g.sofar.within in let e = g.sofar.len in record {
       dense = g.dense;
       sound = g.sound;
       within = omega arith;
@@ -35,15 +35,15 @@ hand_out-t-requires c =
 
 pub loop-numbers-smaller : goal.loop-numbers-smaller
 loop-numbers-smaller c =
-    let ahead : let a = c.args in
-    let t = c.loop-numbers.t in t.main + t.spare < length a.main.now + length a.spare.now = let g = c.loop-numbers.invariant in not-ends _ _ _ _ g.main-in g.spare-in (sym c.at_ends.ensures ∙ c.loop-numbers-test.true) in
+    let g = c.loop-numbers.invariant in
+    let ahead = not-ends _ _ _ _ g.main-in g.spare-in (sym c.at_ends.ensures ∙ c.loop-numbers-test.true) in
     let v = c.hand_out-t.ensures.moved c.if-t-ne0.false in let p = v.3 in
-    let q = ahead in omega arith
+    omega arith
 
 pub loop-numbers-preserved : goal.loop-numbers-preserved
 loop-numbers-preserved c =
-    let ahead : let a = c.args in
-    let t = c.loop-numbers.t in t.main + t.spare < length a.main.now + length a.spare.now = let g = c.loop-numbers.invariant in not-ends _ _ _ _ g.main-in g.spare-in (sym c.at_ends.ensures ∙ c.loop-numbers-test.true) in
+    let g = c.loop-numbers.invariant in
+    let ahead = not-ends _ _ _ _ g.main-in g.spare-in (sym c.at_ends.ensures ∙ c.loop-numbers-test.true) in
     feeding-again _ _ _ _ _ _ c.loop-numbers.invariant
     ahead c.hand_out-t.result c.hand_out-t.new.numbers c.hand_out-t.new.report (omega arith)
     c.hand_out-t.auto.report c.hand_out-t.ensures c.if-t-ne0.false

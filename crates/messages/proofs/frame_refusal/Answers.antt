@@ -16,8 +16,8 @@ returns-then-size-lt4 c =
     let bs = c.args.message.now in
     torn-low bs (omega arith)
 
-pub returns-then-message-size : goal.returns-then-message-size
-returns-then-message-size c =
+pub returns-then-message-from : goal.returns-then-message-from
+returns-then-message-from c =
     let bs = c.args.message.now in
     torn-high bs (omega arith)
 
