@@ -29,14 +29,17 @@ OPERANDS = re.compile(r"([\w.]+)( < | <= | - | / | % )([\w.]+)(?![\w.(\[:])")
 
 
 def code_lines(text):
-    """The numbers of the lines that are code: no contract, comment, `use`, declaration or blank."""
-    inside = False
+    """The numbers of the lines that are code: no contract, comment, `use`, declaration or blank.
+
+    A function's body stands at the margin, a method's one step in."""
+    margin = None
     for number, line in enumerate(text):
-        if line.startswith("{"):
-            inside = True
-        elif line.startswith("}"):
-            inside = False
-        elif inside and line.strip() and not line.strip().startswith("//"):
+        if margin is None:
+            begins = re.match(r"((?: {4})?)(?:\{|(?:pub )?fn .*\{)$", line)
+            margin = begins[1] if begins else None
+        elif line.startswith(margin + "}"):
+            margin = None
+        elif line.strip() and not line.strip().startswith("//"):
             yield number
 
 

@@ -1,4 +1,4 @@
--- What a message leaves of the venue's slice and of the report memory.
+-- What a message leaves of the venue's numbers and of the report memory.
 use Rattle.std.specs.Prelude.{◌≡◌, Bool, not, List, [], ◌∷◌, ℕ, eqb, if◌then◌else◌}
 use Rattle.rules.specs.declared.Venue.{Venue}
 use Rattle.rules.specs.declared.Message.{Message}

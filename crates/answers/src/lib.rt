@@ -8,7 +8,7 @@ ghost use Rattle.answers.specs.Steps.{Finishes, Steps};
 
 use places::Numbers;
 
-// A message's refusal (0: accepted), and the position after its records.
+// A message's refusal (0: accepted), and the position after its records. A refused message has its answer as a record, so this is no Result.
 #[derive(Clone, Copy)]
 pub struct Stepped {
     pub refused: u8,

@@ -239,12 +239,12 @@ pub fn verdict_number(verdict: Option<Cause>) -> u8
 }
 
 // The refusal, 1 to 4 or 14, that a message's bytes meet; 0 if none.
-pub fn decoded_number(decoded: Result<Message, Refusal>) -> u8
+pub fn decoded_number(decoded: Result<Message, u8>) -> u8
     ensures { result ≡ decoded_number decoded }
 {
     match decoded {
         Ok(_) => 0,
-        Err(refusal) => refusal_number(refusal),
+        Err(number) => number,
     }
 }
 

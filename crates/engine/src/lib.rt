@@ -12,7 +12,8 @@ use rules::{Returned, Venue};
 
 // A run -----------------------------------------------------------------------------------------
 
-// Where a run stands: its number, the messages done, the position in them, and the bytes written.
+// Where a run stands: its number, the messages done, the position in them, and the bytes written. The number is document 01's, 0 while the run goes on:
+// a run that has ended keeps the other three, so it is no Result.
 #[derive(Clone, Copy)]
 pub struct RunProgress {
     pub number: u8,
@@ -74,6 +75,7 @@ pub fn run(messages: &[u8], report: &mut [u8]) -> Returned
         at: 0,
         written: 0,
     };
+    // The position moves on by each message's own length, and a number ends the run, so no range is known beforehand.
     while t.at < messages.len() {
         let head = reader::message_head(messages, t.at);
         t = advance(t, head, &mut numbers, messages, report);

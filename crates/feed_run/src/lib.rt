@@ -83,6 +83,7 @@ fn feed_lines<'a>(main: &'a [u8], spare: &'a [u8], report: &mut [u8]) -> Returne
         spare: 0,
         written: 0,
     };
+    // Each line's position moves on by its own messages' lengths, so no range is known beforehand.
     while !feed::at_ends(main, t.main, spare, t.spare) {
         t = hand_out(t, &mut numbers, main, spare, report);
         if t.number != 0 {

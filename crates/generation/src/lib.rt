@@ -104,7 +104,7 @@ fn price_may_stand(numbers: &Numbers, own: u32, facing: u32, s: u8, d: u8, p: u3
 
 // What stands at side d of series s gives way to c at price p: it is worse, or of class 1 at an equal price while c is of class 0.
 pub fn gives_way(numbers: &Numbers, c: Complex, s: u8, d: u8, p: u32) -> bool
-    requires { SideReady numbers.now s d }
+    requires { SideReady s d }
     ensures { result ≡ gives_way (venue_of numbers.now) c d p (legging_at (venue_of numbers.now) s d) }
 {
     let own = prices::own_price(numbers, s, d);

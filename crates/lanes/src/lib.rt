@@ -75,7 +75,7 @@ fn lane_sound(lane: &[u8], v: usize, but: usize) -> bool
     soundness::load_ready(&mut numbers, venue, before)
 }
 
-// No figure of the layer is out of range, and no venue but one gets 9; with 4, none.
+// No figure of the layer is out of range, and no venue but one gets 9; with 4, none, as the definition `layer_sound_but` has it.
 pub fn layer_sound(layer: &[u8], but: usize) -> bool
     requires { length layer.now ≡ layer_size }
     ensures { result ≡ layer_sound_but but (layer_from layer.now) }

@@ -26,18 +26,18 @@ pub record LegSideReady (b : List ℕ) (c : Complex) (s d : ℕ) : Type 0 where
   pub series : s < 8
   pub side : d < 2
 
--- a whole slice and the levels that the legs of c take
+-- the levels that the legs of c take
 pub record TakenReady (b : List ℕ) (t : TakenLevels) (c : Complex) : Type 0 where
   pub taken : TakenOf t c (venue_of b).regular
   pub legs : LegsIn c
 
--- a whole slice with the figures in force, and the levels that the legs of c take
+-- the figures in force, and the levels that the legs of c take
 pub record TakenFigured (b : List ℕ) (t : TakenLevels) (c : Complex) : Type 0 where
   pub taken : TakenOf t c (venue_of b).regular
   pub legs : LegsIn c
   pub figures : Figured b
 
--- a whole slice with the figures in force, the levels that the legs of c take, and a series
+-- the figures in force, the levels that the legs of c take, and a series
 pub record TakenSeries (b : List ℕ) (t : TakenLevels) (c : Complex) (s : ℕ) : Type 0 where
   pub taken : TakenOf t c (venue_of b).regular
   pub legs : LegsIn c
@@ -51,12 +51,12 @@ pub record BandReady (b : List ℕ) (t : TakenLevels) (c : Complex) (x : ℤ) : 
   pub bound : nat_abs x ≤ 2190433320450
   pub figures : Figured b
 
--- a whole slice with the figures in force, and its levels
+-- the figures in force, and its levels
 pub record GridReady (b : List ℕ) (g : List (List Level)) : Type 0 where
   pub grid : GridOf g (venue_of b).regular
   pub figures : Figured b
 
--- a whole slice with the figures in force, its levels, and a legging place
+-- the figures in force, its levels, and a legging place
 pub record GridPlaceReady (b : List ℕ) (g : List (List Level)) (n : ℕ) : Type 0 where
   pub grid : GridOf g (venue_of b).regular
   pub place : n < 16
@@ -69,19 +69,19 @@ pub record SidesReady (b : List ℕ) (x : LegSides) (c : Complex) (s d : ℕ) : 
   pub series : s < 8
   pub figures : Figured b
 
--- a whole slice and the level of a series and side
+-- the level of a series and side
 pub record LevelReady (b : List ℕ) (l : Level) (s d : ℕ) : Type 0 where
   pub level : l ≡ level_of s d (venue_of b).regular
   pub series : s < 8
   pub side : d < 2
 
--- a whole slice and the best price of a series and side
+-- the best price of a series and side
 pub record BestReady (b : List ℕ) (p s d : ℕ) : Type 0 where
   pub best : p ≡ best_regular (venue_of b) s d
   pub series : s < 8
   pub side : d < 2
 
--- a whole slice, a series, and the best price of its side d
+-- a series, and the best price of its side d
 pub record BestOfSeries (b : List ℕ) (p s d : ℕ) : Type 0 where
   pub best : p ≡ best_regular (venue_of b) s d
   pub series : s < 8

@@ -53,7 +53,7 @@ fn with_order(l: Level, o: Regular) -> Level
 
 // The level of one series and side, in one pass over its orders.
 fn level_of(numbers: &Numbers, s: u8, d: u8) -> Level
-    requires { SideReady numbers.now s d }
+    requires { SideReady s d }
     ensures { result ≡ level_of s d (venue_of numbers.now).regular }
 {
     let key = arithmetic::place_of(s, d);

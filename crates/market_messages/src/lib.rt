@@ -75,7 +75,7 @@ fn set_figure(
 
 // By kind ---------------------------------------------------------------------------------------
 
-// 4: away prices. The steps share no frame that takes a closure, for the reason that order_step tells (order_messages).
+// 4: away prices. The steps are written out one by one, for the reason that `order_step` gives (order_messages).
 pub fn away_step(
     numbers: &mut Numbers,
     number: u32,

@@ -1,4 +1,4 @@
-// One message upon the venue in its slice, from its bytes: refused or accepted, with its answer.
+// One message upon the venue as numbers, from its bytes: refused or accepted, with its answer.
 #![tactic(auto)]
 
 ghost use Rattle.std.specs.Prelude.{◌≡◌, length};

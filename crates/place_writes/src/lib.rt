@@ -1,4 +1,4 @@
-// What changes in the venue inside a call, as stores into the numbers of its slice (places' specs/Layout.antt).
+// What changes in the venue inside a call, as stores into its numbers (places' specs/Layout.antt).
 #![tactic(auto)]
 
 ghost use Rattle.std.specs.Prelude.{◌≡◌, Bool, List, ℕ, suc, min, ◌+◌, ◌-◌, ◌*◌, ◌^◌, ◌≤◌, ◌<◌, length, get_or, set};

@@ -1,4 +1,4 @@
--- The venue as numbers in one lent slice, and the venue that they stand for.
+-- The venue as numbers in one lent array, and the venue that they stand for.
 --
 --   from   numbers                                                             places
 --      0   id, legging place of its series and side, price, quantity           128 regular
@@ -43,7 +43,7 @@ use Rattle.places.specs.Offsets.{series_bid_at, series_offer_at, regulars_used_a
 use Rattle.places.specs.Offsets.{regulars_known_at, complexes_known_at, legging_mask_at, edition_number_at, edition_message_at, edition_figure_at}
 use Rattle.places.specs.Offsets.{edition_value_at, figures_at, regular_reserve_at, regular_display_at, show_again_at, generation_messages_at, id_reached_at}
 
--- the slice's length
+-- how many numbers a venue is
 abbrev pub size : ℕ
 size = 1393
 

@@ -11,33 +11,33 @@ use Rattle.rules.specs.declared.Complex.{Complex}
 use Rattle.rules.specs.declared.Edition.{Edition}
 use Rattle.rules.specs.Settings.{free_edition}
 
--- a whole slice and two regular places in use
+-- two regular places in use
 pub record RegularsReady (b : List ℕ) (i j : ℕ) : Type 0 where
   pub first : i < regulars_used b
   pub second : j < regulars_used b
 
--- a whole slice and two complex places in use
+-- two complex places in use
 pub record ComplexesReady (b : List ℕ) (i j : ℕ) : Type 0 where
   pub first : i < complexes_used b
   pub second : j < complexes_used b
 
--- a whole slice, a series and a side
-pub record SideReady (b : List ℕ) (s d : ℕ) : Type 0 where
+-- a series and a side
+pub record SideReady (s d : ℕ) : Type 0 where
   pub series : s < 8
   pub side : d < 2
 
--- a whole slice with the figures in force, and a series
+-- the figures in force, and a series
 pub record IncrementReady (b : List ℕ) (s : ℕ) : Type 0 where
   pub series : s < 8
   pub figures : Figured b
 
--- a whole slice with the figures in force, and a figure
+-- the figures in force, and a figure
 pub record FigureReady (b : List ℕ) (f : ℕ) : Type 0 where
   pub figure : f < 9
   pub figures : Figured b
 
--- a whole slice, a series and one of its last 20 generations
-pub record GenerationReady (b : List ℕ) (s k : ℕ) : Type 0 where
+-- a series and one of its last 20 generations
+pub record GenerationReady (s k : ℕ) : Type 0 where
   pub series : s < 8
   pub generation : k < 20
 
@@ -138,7 +138,7 @@ pub record InRangeOrder (b : List ℕ) (o : Regular) : Type 0 where
   pub fully : shows_fully o ≡ true
   pub newest : Below o.id (venue_of b).regular
 
--- a whole slice and two of n places
-pub record PlacesReady (b : List ℕ) (i j n : ℕ) : Type 0 where
+-- two of n places
+pub record PlacesReady (i j n : ℕ) : Type 0 where
   pub first : i < n
   pub second : j < n

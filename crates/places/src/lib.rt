@@ -1,4 +1,4 @@
-// The venue inside a call: numbers in one lent slice (specs/Layout.antt), as they are read. Only this crate, place_writes and venue_numbers know the layout: the others
+// The venue inside a call: numbers in one lent array (specs/Layout.antt), as they are read. Only this crate, place_writes and venue_numbers know the layout: others
 // read and write places, and speak of the venue that the numbers stand for.
 #![tactic(auto)]
 
@@ -14,7 +14,7 @@ ghost use Rattle.places.specs.Requirements.{FigureReady, GenerationReady};
 
 use rules::{Complex, Edition, Generations, Legging, Listed, Regular, Venue};
 
-// The slice's length.
+// How many numbers a venue is.
 pub const SIZE: usize = 1393;
 
 // A venue as numbers (specs/Layout.antt): what each of them means, and which are kept beside the venue.
@@ -298,7 +298,7 @@ pub fn last_id(numbers: &Numbers) -> u32
 
 // The message of one of a series' last 20 generations, oldest first; 0 where there were fewer.
 pub fn generation_at(numbers: &Numbers, s: usize, k: usize) -> u32
-    requires { GenerationReady numbers.now s k }
+    requires { GenerationReady s k }
     ensures { result ≡ get_or (generations_of (venue_of numbers.now) s) k 0 }
 {
     numbers[20 * s + k + GENERATION_MESSAGES_AT]
@@ -352,6 +352,7 @@ trait Row {
     // What stands at a place that is free.
     ghost free: { Self };
 
+    // What stands at a place.
     fn read(numbers: &Numbers, i: usize) -> Self
         requires { i < many }
         ensures { result ≡ row_of numbers.now i };

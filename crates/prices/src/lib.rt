@@ -44,7 +44,7 @@ pub fn sides_of(g: [[Level; 2]; 8], c: Complex, s: u8, d: u8) -> LegSides
     }
 }
 
-// A legging order's own price; 0 where its place is free.
+// A legging order's own price; 0 where its place is free. A price of 0 is none here and in the functions below, as in the venue and in the definitions.
 pub fn own_price_of(legging: Legging) -> u32
     ensures { result ≡ own_price legging }
 {
@@ -56,7 +56,7 @@ pub fn own_price_of(legging: Legging) -> u32
 
 // The own price of the legging order of a series and side; 0 where there is none.
 pub fn own_price(numbers: &Numbers, s: u8, d: u8) -> u32
-    requires { SideReady numbers.now s d }
+    requires { SideReady s d }
     ensures { result ≡ own_price (legging_at (venue_of numbers.now) s d) }
 {
     own_price_of(places::legging_at(numbers, arithmetic::place_of(s, d)))
@@ -209,7 +209,7 @@ pub fn is_complex_of(c: Complex, id: u32) -> bool
     c.id == id
 }
 
-// The complex order of a legging order.
+// The complex order of a legging order; an order of all zeros where none rests, as the definition `parent_of` has it.
 pub fn parent_of(numbers: &Numbers, l: Legging) -> Complex
     ensures { result ≡ parent_of (venue_of numbers.now) l }
 {

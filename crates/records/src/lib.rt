@@ -11,7 +11,8 @@ use rules::Cause;
 
 // Writing -------------------------------------------------------------------------------------
 
-// The bytes of `src` at `at`, and the position after them. Where they do not fit nothing is written, and the position is past the end.
+// The bytes of `src` at `at`, and the position after them. Where they do not fit nothing is written, and the position is past the end: an Option would
+// not say so, and what is written after a write that did not fit is left out by that position alone (specs/Seen.antt).
 pub fn put(out: &mut [u8], at: usize, src: &[u8]) -> usize
     ensures { seen out.new result ≡ seen out.old at plus src.now }
 {

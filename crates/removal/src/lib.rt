@@ -1,4 +1,4 @@
-// Removal of legging orders from the venue in its slice: those that fail go, with their records (68) by rising place.
+// Removal of legging orders from the venue as numbers: those that fail go, with their records (68) by rising place.
 #![tactic(auto)]
 
 ghost use Rattle.std.specs.Prelude.{◌≡◌, ◌||◌, ℕ, eqb, Some, ◌<◌};
@@ -59,7 +59,7 @@ pub fn remove_at(
     out: &mut [u8],
     at: usize,
 ) -> usize
-    requires { PlacesReady numbers.old n1 n2 16 }
+    requires { PlacesReady n1 n2 16 }
     ensures result_after { stage (venue_of numbers.new) out.new result ≡ seen out.old at does remove (λ n _. fail_if (eqb n n1 || eqb n n2) cause) (venue_of numbers.old) }
     ensures counts { SameCounts numbers.old numbers.new }
 {

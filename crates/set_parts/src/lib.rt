@@ -196,6 +196,7 @@ pub fn put_orders(numbers: &Numbers, out: &mut [u8], at: usize) -> usize
     let mut pos = at;
     let mut i: usize = 0;
     let mut j: usize = 0;
+    // The two books are merged: each turn moves on in one of them.
     for _turn in 0..n + m {
         if regular_next(numbers, n, m, i, j) {
             let o = places::regular_at(numbers, i);

@@ -25,15 +25,15 @@ fn display_told(r: &[u8]) -> u32
     wire::u32_at(r, 14)
 }
 
-// What a set tells one after another, each by a record of its own.
+// A kind of order or edition, each of which a set tells by a record of its own.
 trait Told: Copy {
-    // A record tells one.
+    // Whether a record tells one of this kind.
     ghost tells: { List ℕ → Bool };
 
     // What it tells.
     ghost told: { List ℕ → Self };
 
-    // A record tells one.
+    // Whether a record tells one of this kind.
     fn tells(r: &[u8]) -> bool
         ensures { result ≡ tells r.now };
 

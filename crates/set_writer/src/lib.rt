@@ -31,7 +31,7 @@ impl SaveError {
 
 // The set ---------------------------------------------------------------------------------------
 
-// The set of the venue in the slice, from the front of the memory on; a position past the end where it does not fit.
+// The set of the venue that the numbers stand for, from the front of the memory on; a position past the end where it does not fit.
 fn put_set(numbers: &Numbers, number: u32, out: &mut [u8]) -> usize
     requires { Dense numbers.now }
     ensures { set_memory out.new result ≡ set_memory out.old 0 adds joined (set_of number (venue_of numbers.now)) }

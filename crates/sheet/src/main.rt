@@ -101,6 +101,7 @@ fn print_list<W: Write>(out: &mut W, messages: &[u8]) -> Result<(), Stopped>
     let mut report = [0u8; 10433];
     let mut text = [0u8; 26083];
     let mut p = start();
+    // The position moves on by each message's own length.
     while p.at < messages.len() {
         let done = p.done;
         p = advance(p, messages, &mut report, &mut text);
@@ -120,6 +121,7 @@ fn read_input<R: Read>(reader: &mut R, buf: &mut [u8]) -> io::Result<usize>
     ensures bytes { IfOk result (λ n. ReadFrom (R.remaining reader.old) (R.remaining reader.new) buf.new n) }
 {
     let mut done = 0;
+    // Each read tells how many bytes it took.
     while done < buf.len() {
         let more = reader.read(&mut buf[done..])?;
         if more == 0 {

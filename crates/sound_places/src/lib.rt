@@ -16,6 +16,7 @@ trait Place {
     // Whether all of it is zero.
     ghost blank: { Self → Bool };
 
+    // Whether the place is all zero.
     fn is_blank(&self) -> bool
         ensures { result ≡ blank self.now };
 }

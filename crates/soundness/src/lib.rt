@@ -207,7 +207,7 @@ fn orders_sound(numbers: &Numbers) -> bool
     leggings_sound(numbers, g)
 }
 
-// Whether a venue is sound; one that is stands in the slice afterwards.
+// Whether a venue is sound; one that is stands among the numbers afterwards.
 pub fn load_sound(numbers: &mut Numbers, v: Venue) -> bool
     ensures { Checked v result numbers.new }
 {
@@ -267,7 +267,7 @@ pub fn follows_kept(numbers: &Numbers, number: u32) -> bool
 }
 
 // Whether a venue is sound and the number of its next message, one more than `before`, above every edition's and generation's kept; one for which this
-// holds stands in the slice afterwards. Nothing kept has a number above the last that there is.
+// holds stands among the numbers afterwards. Nothing kept has a number above the last that there is.
 pub fn load_ready(numbers: &mut Numbers, venue: Venue, before: u32) -> bool
     ensures { Ready venue before result numbers.new }
 {

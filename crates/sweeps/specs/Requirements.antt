@@ -20,7 +20,7 @@ pub record RightRound (b : List ℕ) (r : Round) : Type 0 where
   pub above : r.first + r.above ≤ complexes_used b
   pub others : r.others ≤ complexes_used b
 
--- a whole slice and the complex places of a round, which are in use
+-- the complex places of a round, which are in use
 pub record RoundReady (b : List ℕ) (r : Round) : Type 0 where
   pub above : r.first + r.above ≤ complexes_used b
   pub others : r.others ≤ complexes_used b

@@ -31,7 +31,7 @@ fn digit(n: u32) -> u8
 }
 
 // A number in decimal.
-// Crate itoa prints a number whole. Here a number that does not fit is cut where the memory ends, so each digit is put by itself.
+// The library prints a number whole. Here a number that does not fit is cut where the memory ends, so each digit is put by itself.
 fn put_number(out: &mut [u8], at: usize, n: u32) -> usize
     ensures { seen out.new result ≡ seen out.old at types decimal n }
 {

@@ -134,7 +134,7 @@ fn pairing_of(numbers: &Numbers, l: Legging, series: u8, side: u8) -> Pairing
     }
 }
 
-// The place of the resting complex order with an id; 32 where there is none.
+// The place of the resting complex order with an id; 32 where there is none, as the definition `complex_place` has it.
 fn place_or_end(numbers: &Numbers, id: u32) -> usize
     ensures { result ≡ complex_place (venue_of numbers.now) id }
 {

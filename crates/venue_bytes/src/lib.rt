@@ -36,6 +36,7 @@ trait Row {
     // How many rows the table has.
     ghost many: { ℕ };
 
+    // What a row of the table has.
     fn read(bytes: &[u8], i: usize) -> Self
         requires { (length bytes.now ≡ venue_size) × (i < many) }
         ensures { result ≡ row_of bytes.now i };

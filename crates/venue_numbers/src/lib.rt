@@ -1,4 +1,4 @@
-// A venue held by value, and the fresh one, laid out as the numbers of a slice (places' specs/Layout.antt).
+// A venue held by value, and the fresh one, laid out as numbers (places' specs/Layout.antt).
 #![tactic(auto)]
 
 ghost use Rattle.std.specs.Prelude.{◌≡◌, ◌<◌, Bool, ℕ, List, length, set};
@@ -144,6 +144,7 @@ trait Part {
     // How many places the part has.
     ghost many: { ℕ };
 
+    // It is written among the numbers, at a place.
     fn put(self, numbers: &mut Numbers, i: usize)
         requires { i < many }
         ensures numbers_after { venue_of numbers.new ≡ with (venue_of numbers.old) (set (part (venue_of numbers.old)) i self) }

@@ -23,6 +23,7 @@ trait Table {
         ensures { seen out.new result ≡ seen out.old at plus row_bytes row };
 }
 
+// The rows of the regular orders.
 struct Orders;
 
 impl Table for Orders {
@@ -38,6 +39,7 @@ impl Table for Orders {
     }
 }
 
+// The rows of the regular orders' reserves.
 struct Reserves;
 
 impl Table for Reserves {
@@ -51,6 +53,7 @@ impl Table for Reserves {
     }
 }
 
+// The rows of the complex orders.
 struct ComplexOrders;
 
 impl Table for ComplexOrders {
@@ -69,6 +72,7 @@ impl Table for ComplexOrders {
     }
 }
 
+// The rows of the complex orders' ratios.
 struct Ratios;
 
 impl Table for Ratios {
@@ -82,6 +86,7 @@ impl Table for Ratios {
     }
 }
 
+// The rows of the legging orders.
 struct Leggings;
 
 impl Table for Leggings {
@@ -95,6 +100,7 @@ impl Table for Leggings {
     }
 }
 
+// The rows of the series.
 struct Series;
 
 impl Table for Series {
@@ -108,6 +114,7 @@ impl Table for Series {
     }
 }
 
+// The rows of the editions.
 struct Editions;
 
 impl Table for Editions {
@@ -126,6 +133,7 @@ impl Table for Editions {
     }
 }
 
+// The rows of the series' generations.
 struct AllGenerations;
 
 impl Table for AllGenerations {
