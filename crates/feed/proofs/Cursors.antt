@@ -20,7 +20,7 @@ use Rattle.reader.specs.Head.{head_of, head_at}
 use Rattle.reader.proofs.Heads.{head-end, head-torn, head-message}
 use Rattle.feed.specs.Feed.{number_of, message_in, behind, faulty, faultless, faultless_from, same}
 use Rattle.feed.specs.declared.Line.{Line}
-use Rattle.feed.specs.Requirements.{MessageThere}
+use Rattle.feed.specs.Requirements.{MessageThere, LinesLeft}
 use Rattle.feed.specs.Cursors.{left_of, part_length, ready, stop_of, part_of, advance_of}
 
 -- Numbers -------------------------------------------------------------------------------------
@@ -198,20 +198,20 @@ same-pointwise (x ∷ a) (y ∷ b) = ap (λ (t : Bool). eqb x y && t) (same-poin
 -- What comes up -------------------------------------------------------------------------------
 
 -- one of the lines has a number above the last, so there is a next one
-pub next_fits : (last : ℕ) (m s : List ℕ) (at other : ℕ) → ready last (drop at m) ≡ true → ready last (drop other s) ≡ true → at ≤ length m → other ≤ length s →
-    at + other < length m + length s → number_of (drop at m) < 4294967296 → number_of (drop other s) < 4294967296 → last < 4294967295
-next_fits last m s at other a b h k lt x y = go (ltb at (length m)) refl
+pub next_fits : (last : ℕ) (m s : Line) → LinesLeft m s last → number_of (left_of m) < 4294967296 → number_of (left_of s) < 4294967296 → last < 4294967295
+next_fits last m s w x y = go (ltb m.at (length m.bytes.now)) refl
   where
-    go : (t : Bool) → ltb at (length m) ≡ t → last < 4294967295
+    go : (t : Bool) → ltb m.at (length m.bytes.now) ≡ t → last < 4294967295
     go true e =
-        let z = ltb-true at (length m) e in
-        let j = length-drop at m in
-        let f = fine-above last (drop at m) (ready-fine last (drop at m) a (omega arith)) in
+        let z = ltb-true m.at (length m.bytes.now) e in
+        let j = length-drop m.at m.bytes.now in
+        let f = fine-above last (left_of m) (ready-fine last (left_of m) w.main (omega arith)) in
         omega arith
     go false e =
-        let z = ltb-false at (length m) e in
-        let j = length-drop other s in
-        let f = fine-above last (drop other s) (ready-fine last (drop other s) b (omega arith)) in
+        let z = ltb-false m.at (length m.bytes.now) e in
+        let left = w.left in
+        let j = length-drop s.at s.bytes.now in
+        let f = fine-above last (left_of s) (ready-fine last (left_of s) w.spare (omega arith)) in
         omega arith
 
 module _ (n : ℕ) (m s : List ℕ) where
