@@ -183,9 +183,9 @@ pub record Feeding (main spare l₀ b l : List ℕ) (t : FeedProgress) : Type 0 
 abbrev pub FeedEnded : (main spare l₀ b l : List ℕ) (t : FeedProgress) → Type 0
 FeedEnded main spare l₀ b l t = Ended (whole_feed main spare l₀) l₀ b l t.number t.done t.written
 
-fed-none : (fuel : ℕ) (v : Venue) (n room : ℕ) (m s : List Part) → next (suc n) m s ≡ stop 0 → fed_from fuel v n room m s ≡ ends 0 v
-fed-none zero v n room m s e = unfold fed_from in refl
-fed-none (suc fuel) v n room m s e = fed-stop fuel v n room m s 0 e
+fed-none : (fuel : ℕ) (v : Venue) (n free : ℕ) (m s : List Part) → next (suc n) m s ≡ stop 0 → fed_from fuel v n free m s ≡ ends 0 v
+fed-none zero v n free m s e = unfold fed_from in refl
+fed-none (suc fuel) v n free m s e = fed-stop fuel v n free m s 0 e
 
 -- it begins with the numbers of a fresh venue
 pub feeding-start : (m s : Bor (List ℕ)) (b l : List ℕ) → length b ≡ size → Loaded fresh_venue b → faultless m.now ≡ true → faultless s.now ≡ true →

@@ -10,9 +10,6 @@ loop-at-init c = tested-start c.args.line.now
 pub returns-in_default : goal.returns-in_default
 returns-in_default c = let g = c.loop-at in tested-not _ g.last g.at g.invariant (omega arith) (part-none _ _ (sym c.in_default.is ∙ c.part_length.ensures))
 
-pub number-last-requires : goal.number-last-requires
-number-last-requires c = tt
-
 pub overflow_add-at : goal.overflow_add-at
 overflow_add-at c = let g = c.loop-at in let p = part-some _ _ _ (sym c.in-Some.is ∙ c.part_length.ensures) in let w = part-within c.args.line.now g.last g.at g.invariant
     (omega arith) _ _ p.0 p.1 refl in omega arith

@@ -8,14 +8,8 @@ use borrow.Author.Rules.{rules}
 use Rattle.feed_run.proofs.feed_lines.Goals as goal
 use Rattle.feed_run.proofs.feed_lines.Goals.{else-loop-t-test, then-loop-t-test+then-t-ne0}
 
-pub fresh_numbers-numbers-requires : goal.fresh_numbers-numbers-requires
-fresh_numbers-numbers-requires c = tt
-
 pub loop-t-init : goal.loop-t-init
 loop-t-init c = feeding-start _ _ _ _ (search rules) (search rules) c.requires.main c.requires.spare
-
-pub at_ends-requires : goal.at_ends-requires
-at_ends-requires c = tt
 
 pub hand_out-t-requires : goal.hand_out-t-requires
 hand_out-t-requires c =
@@ -43,9 +37,6 @@ loop-t-preserved c =
     feeding-again _ _ _ _ _ _ c.loop-t.invariant
     ahead c.hand_out-t.result c.hand_out-t.new.numbers c.hand_out-t.new.report (omega arith)
     c.hand_out-t.auto.report c.hand_out-t.ensures c.if-t-ne0.false
-
-pub zero_from-requires : goal.zero_from-requires
-zero_from-requires c = tt
 
 pub returns : goal.returns
 returns c =
