@@ -27,13 +27,7 @@ pub struct FeedProgress<'a> {
 fn stop_at<'a>(t: FeedProgress<'a>, number: u8) -> FeedProgress<'a>
     ensures { result ≡ stops_at t.entry number }
 {
-    FeedProgress {
-        number,
-        done: t.done,
-        main: t.main,
-        spare: t.spare,
-        written: t.written,
-    }
+    FeedProgress { number, ..t }
 }
 
 // One message more, or what stops it. The lines are not both at their ends.
