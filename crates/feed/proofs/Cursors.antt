@@ -19,7 +19,9 @@ use Rattle.reader.specs.declared.Head.TheVariants.{Message}
 use Rattle.reader.specs.Head.{head_of, head_at}
 use Rattle.reader.proofs.Heads.{head-end, head-torn, head-message}
 use Rattle.feed.specs.Feed.{number_of, message_in, behind, faulty, faultless, faultless_from, same}
-use Rattle.feed.specs.Cursors.{part_length, ready, stop_of, part_of, advance_of}
+use Rattle.feed.specs.declared.Line.{Line}
+use Rattle.feed.specs.Requirements.{MessageThere, LinesLeft}
+use Rattle.feed.specs.Cursors.{left_of, part_length, ready, stop_of, part_of, advance_of}
 
 -- Numbers -------------------------------------------------------------------------------------
 
@@ -81,21 +83,22 @@ module _ (l : List ℕ) (at : ℕ) where
   unfolding length_field
   field-here = ap (λ (x : List ℕ). u16_at x 0) (drop-drop 4 at l) ∙ sym (u16-here (at + 4) l)
 
-  pub whole_here : (last : ℕ) → faulty last (drop at l) ≡ false → (at + 6 ≤ length l) × (at + 4 + u16_at l (at + 4) ≤ length l)
-  whole_here last e =
-      let f = fine-length last (drop at l) e in
-      let a = f.0 in
-      let b = f.1 in
-      let k = length-drop at l in
-      let g = field-here in
-      let p = number-ahead l at (let z = fine-above last (drop at l) e in omega arith) in
-      (omega arith, omega arith)
-
   pub message-here : (n : ℕ) → n ≡ u16_at l (at + 4) → take (at + 4 + n - (at + 4)) (drop (at + 4) l) ≡ message_in (drop at l)
   unfolding message_in
   message-here n e =
       let z : at + 4 + n - (at + 4) ≡ length_field (drop 4 (drop at l)) = (let g = field-here in omega arith) in
       ap₂ take z (sym (drop-drop 4 at l))
+
+-- behind a number that is not faulty stands a whole message
+pub message-there : (l : Line) (last : ℕ) → faulty last (left_of l) ≡ false → MessageThere l
+message-there l last e =
+    let f = fine-length last (left_of l) e in
+    let a = f.0 in
+    let b = f.1 in
+    let k = length-drop l.at l.bytes.now in
+    let g = field-here l.bytes.now l.at in
+    let p = number-ahead l.bytes.now l.at (let z = fine-above last (left_of l) e in omega arith) in
+    record { head = omega arith; whole = omega arith }
 
 -- 21's test of a part -------------------------------------------------------------------------
 
@@ -195,20 +198,20 @@ same-pointwise (x ∷ a) (y ∷ b) = ap (λ (t : Bool). eqb x y && t) (same-poin
 -- What comes up -------------------------------------------------------------------------------
 
 -- one of the lines has a number above the last, so there is a next one
-pub next_fits : (last : ℕ) (m s : List ℕ) (at other : ℕ) → ready last (drop at m) ≡ true → ready last (drop other s) ≡ true → at ≤ length m → other ≤ length s →
-    at + other < length m + length s → number_of (drop at m) < 4294967296 → number_of (drop other s) < 4294967296 → last < 4294967295
-next_fits last m s at other a b h k lt x y = go (ltb at (length m)) refl
+pub next_fits : (last : ℕ) (m s : Line) → LinesLeft m s last → number_of (left_of m) < 4294967296 → number_of (left_of s) < 4294967296 → last < 4294967295
+next_fits last m s w x y = go (ltb m.at (length m.bytes.now)) refl
   where
-    go : (t : Bool) → ltb at (length m) ≡ t → last < 4294967295
+    go : (t : Bool) → ltb m.at (length m.bytes.now) ≡ t → last < 4294967295
     go true e =
-        let z = ltb-true at (length m) e in
-        let j = length-drop at m in
-        let f = fine-above last (drop at m) (ready-fine last (drop at m) a (omega arith)) in
+        let z = ltb-true m.at (length m.bytes.now) e in
+        let j = length-drop m.at m.bytes.now in
+        let f = fine-above last (left_of m) (ready-fine last (left_of m) w.main (omega arith)) in
         omega arith
     go false e =
-        let z = ltb-false at (length m) e in
-        let j = length-drop other s in
-        let f = fine-above last (drop other s) (ready-fine last (drop other s) b (omega arith)) in
+        let z = ltb-false m.at (length m.bytes.now) e in
+        let left = w.left in
+        let j = length-drop s.at s.bytes.now in
+        let f = fine-above last (left_of s) (ready-fine last (left_of s) w.spare (omega arith)) in
         omega arith
 
 module _ (n : ℕ) (m s : List ℕ) where

@@ -1,9 +1,14 @@
 -- The lines as the code has them: what is left of each from a position on, all numbers there being above the last one handed out.
 use Rattle.std.specs.Prelude.{Bool, not, ◌||◌, List, ℕ, ◌+◌, eqb, length, drop, if◌then◌else◌, Option, Some, None}
 use Rattle.rules.specs.Bytes.{length_field}
+use Rattle.feed.specs.declared.Line.{Line}
 use Rattle.feed.specs.declared.Stop.{Stop}
 use Rattle.feed.specs.declared.Stop.TheVariants.{Differ, Lost}
 use Rattle.feed.specs.Feed.{number_of, message_in, faulty, same, Next, message, stop}
+
+-- what is left of a line, from its next number on
+abbrev pub left_of : Line → List ℕ
+left_of l = drop l.at l.bytes.now
 
 -- the length of the message in front; none where that is faulty
 unfoldable pub part_length : (last : ℕ) → List ℕ → Option ℕ
@@ -35,3 +40,7 @@ up_next n m s = let k = stop_of n m s in if eqb k 0 then message (part_of n m s)
 -- how far a line goes on once a number's message is handed out
 unfoldable pub advance_of : (number : ℕ) → List ℕ → ℕ
 advance_of n bs = if eqb (number_of bs) n then 4 + length_field (drop 4 bs) else 0
+
+-- a line once a number's message is handed out
+abbrev pub line_after : (number : ℕ) → Line → Line
+line_after n l = record { bytes = l.bytes; at = l.at + advance_of n (left_of l) }

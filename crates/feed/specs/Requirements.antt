@@ -1,23 +1,30 @@
 -- What the functions require, each part by its name.
-use Rattle.std.specs.Prelude.{◌≡◌, true, List, ℕ, ◌<◌, ◌≤◌, ◌+◌, ◌-◌, length, drop}
-use Rattle.feed.specs.Cursors.{ready, stop_of}
+use Rattle.std.specs.Prelude.{◌≡◌, true, ℕ, ◌<◌, ◌≤◌, ◌+◌, ◌-◌, length}
+use Rattle.rules.specs.Bytes.{u16_at}
+use Rattle.feed.specs.declared.Line.{Line}
+use Rattle.feed.specs.Cursors.{left_of, ready, stop_of}
 
--- line l stands ready from i on for the message number n
-pub record LineReady (l : List ℕ) (i n : ℕ) : Type 0 where
+-- behind the next number of line l stands a whole message
+pub record MessageThere (l : Line) : Type 0 where
+  pub head : l.at + 6 ≤ length l.bytes.now
+  pub whole : l.at + 4 + u16_at l.bytes.now (l.at + 4) ≤ length l.bytes.now
+
+-- line l stands ready for the message number n
+pub record LineReady (l : Line) (n : ℕ) : Type 0 where
   pub numbered : 0 < n
-  pub stands : ready (n - 1) (drop i l) ≡ true
+  pub stands : ready (n - 1) (left_of l) ≡ true
 
--- both lines stand ready, from i and from j on, for the message number n, which one of them has
-pub record LinesReady (m s : List ℕ) (i j n : ℕ) : Type 0 where
+-- both lines stand ready for the message number n, which one of them has
+pub record LinesReady (m s : Line) (n : ℕ) : Type 0 where
   pub numbered : 0 < n
-  pub main : ready (n - 1) (drop i m) ≡ true
-  pub spare : ready (n - 1) (drop j s) ≡ true
-  pub goes : stop_of n (drop i m) (drop j s) ≡ 0
+  pub main : ready (n - 1) (left_of m) ≡ true
+  pub spare : ready (n - 1) (left_of s) ≡ true
+  pub goes : stop_of n (left_of m) (left_of s) ≡ 0
 
--- both lines stand ready, from i and from j on, after the message number n, and one of them goes on
-pub record LinesLeft (m s : List ℕ) (i j n : ℕ) : Type 0 where
-  pub main : ready n (drop i m) ≡ true
-  pub spare : ready n (drop j s) ≡ true
-  pub in_main : i ≤ length m
-  pub in_spare : j ≤ length s
-  pub left : i + j < length m + length s
+-- both lines stand ready after the message number n, and one of them goes on
+pub record LinesLeft (m s : Line) (n : ℕ) : Type 0 where
+  pub main : ready n (left_of m) ≡ true
+  pub spare : ready n (left_of s) ≡ true
+  pub in_main : m.at ≤ length m.bytes.now
+  pub in_spare : s.at ≤ length s.bytes.now
+  pub left : m.at + s.at < length m.bytes.now + length s.bytes.now

@@ -2,38 +2,80 @@
 // and no message is copied. Each line is passed once by the test and once by the handing out, and a message that both have is compared once.
 #![tactic(auto)]
 
-ghost use Rattle.std.specs.Prelude.{◌≡◌, ◌&&◌, leb, ℕ, suc, ◌+◌, ◌≤◌, ◌<◌, length, drop, MatchResult};
-ghost use Rattle.rules.specs.Bytes.{u16_at};
+ghost use Rattle.std.specs.Prelude.{◌≡◌, ◌&&◌, leb, ℕ, suc, ◌+◌, ◌<◌, length, MatchResult};
 ghost use Rattle.feed.specs.Feed.{number_of, message_in, faultless, same};
-ghost use Rattle.feed.specs.Cursors.{part_length, stop_of, stop_number, part_of, advance_of};
-ghost use Rattle.feed.specs.Requirements.{LineReady, LinesReady, LinesLeft};
+ghost use Rattle.feed.specs.Cursors.{left_of, part_length, stop_of, stop_number, part_of, line_after};
+ghost use Rattle.feed.specs.Requirements.{MessageThere, LineReady, LinesReady, LinesLeft};
 
 use reader::Head;
 
-// The number at a position; 0 where its four bytes are not there, as definition `number_of` has it. No message of a line has number 0.
-fn number_at(line: &[u8], at: usize) -> u32
-    ensures { result ≡ number_of (drop at line.now) }
-{
-    if line.len() <= at {
-        return 0;
-    }
-    if line.len() - at < 4 {
-        return 0;
-    }
-    wire::u32_at(line, at)
+// A line and the position of its next number.
+#[derive(Clone, Copy)]
+pub struct Line<'a> {
+    pub bytes: &'a [u8],
+    pub at: usize,
 }
 
-// The length of the message behind the number at a position; none where it is torn or the number is not above `last`.
-fn part_length(line: &[u8], at: usize, last: u32) -> Option<u16>
-    ensures { result ≡ part_length last (drop at line.now) }
-{
-    let number = number_at(line, at);
-    if number <= last {
-        return None;
+impl<'a> Line<'a> {
+    // The next number; 0 where its four bytes are not there, as definition `number_of` has it. No message of a line has number 0.
+    fn number(self) -> u32
+        ensures { result ≡ number_of (left_of self.entry) }
+    {
+        if self.is_at_end() {
+            return 0;
+        }
+        if self.bytes.len() - self.at < 4 {
+            return 0;
+        }
+        wire::u32_at(self.bytes, self.at)
     }
-    match reader::message_head(line, at + 4) {
-        Head::Message(length) => Some(length),
-        _ => None,
+
+    // The length of the message behind the next number; none where it is torn or the number is not above `last`.
+    fn part_length(self, last: u32) -> Option<u16>
+        ensures { result ≡ part_length last (left_of self.entry) }
+    {
+        let number = self.number();
+        if number <= last {
+            return None;
+        }
+        match reader::message_head(self.bytes, self.at + 4) {
+            Head::Message(length) => Some(length),
+            _ => None,
+        }
+    }
+
+    // The message behind the next number.
+    fn message(self) -> &'a [u8]
+        requires { MessageThere self }
+        ensures { result.now ≡ message_in (left_of self.entry) }
+    {
+        let from = self.at + 4;
+        let length = wire::u16_at(self.bytes, from);
+        let end = from + usize::from(length);
+        &self.bytes[from..end]
+    }
+
+    // The line is at its end.
+    fn is_at_end(self) -> bool
+        ensures { result ≡ leb (length self.entry.bytes.now) self.entry.at }
+    {
+        self.bytes.len() <= self.at
+    }
+
+    // The line once a number's message is handed out.
+    pub fn moved(self, number: u32) -> Line<'a>
+        requires { LineReady self number }
+        ensures { result ≡ line_after number self.entry }
+    {
+        if self.number() != number {
+            return self;
+        }
+        let from = self.at + 4;
+        let length = wire::u16_at(self.bytes, from);
+        Line {
+            bytes: self.bytes,
+            at: from + usize::from(length),
+        }
     }
 }
 
@@ -45,42 +87,33 @@ pub fn is_faultless(line: &[u8]) -> bool
     let mut last = 0u32;
     let mut at = 0usize;
     while at < line.len() {
-        let Some(length) = part_length(line, at, last) else {
+        let here = Line { bytes: line, at };
+        let Some(length) = here.part_length(last) else {
             return false;
         };
-        last = number_at(line, at);
-        at += 4 + length as usize;
+        last = here.number();
+        at += 4 + usize::from(length);
     }
     true
 }
 
-// The message behind the number at a position.
-fn message_at<'a>(line: &'a [u8], at: usize) -> &'a [u8]
-    requires { (at + 6 ≤ length line.now) × (at + 4 + u16_at line.now (at + 4) ≤ length line.now) }
-    ensures { result.now ≡ message_in (drop at line.now) }
+// The next messages of both lines are the same.
+fn same_messages<'a>(main: Line<'a>, spare: Line<'a>) -> bool
+    requires main { MessageThere main }
+    requires spare { MessageThere spare }
+    ensures { result ≡ same (message_in (left_of main.entry)) (message_in (left_of spare.entry)) }
 {
-    let from = at + 4;
-    let length = wire::u16_at(line, from);
-    let end = from + length as usize;
-    &line[from..end]
-}
-
-// The messages at a position of each line are the same.
-fn same_messages(main: &[u8], at: usize, spare: &[u8], other: usize) -> bool
-    requires { (at + 6 ≤ length main.now) × (at + 4 + u16_at main.now (at + 4) ≤ length main.now) × (other + 6 ≤ length spare.now) × (other + 4 + u16_at spare.now (other + 4) ≤ length spare.now) }
-    ensures { result ≡ same (message_in (drop at main.now)) (message_in (drop other spare.now)) }
-{
-    let a = message_at(main, at);
-    let b = message_at(spare, other);
+    let a = main.message();
+    let b = spare.message();
     a == b
 }
 
 // Both lines are at their ends.
-pub fn at_ends(main: &[u8], at: usize, spare: &[u8], other: usize) -> bool
-    ensures { result ≡ (leb (length main.now) at && leb (length spare.now) other) }
+pub fn at_ends<'a>(main: Line<'a>, spare: Line<'a>) -> bool
+    ensures { result ≡ (leb (length main.entry.bytes.now) main.entry.at && leb (length spare.entry.bytes.now) spare.entry.at) }
 {
-    if main.len() <= at {
-        return spare.len() <= other;
+    if main.is_at_end() {
+        return spare.is_at_end();
     }
     false
 }
@@ -102,14 +135,14 @@ pub fn stop_number(stop: Stop) -> u8
     }
 }
 
-// The number that comes up after `done` if its message is handed out, or what stops it. The lines are at these positions and not both at their ends.
-pub fn up_next(main: &[u8], at: usize, spare: &[u8], other: usize, done: u32) -> Result<u32, Stop>
-    requires { LinesLeft main.now spare.now at other done }
-    ensures comes { MatchResult result (λ number. (number ≡ suc done) × (stop_of (suc done) (drop at main.now) (drop other spare.now) ≡ 0)) (λ stop. stop_number stop ≡ stop_of (suc done) (drop at main.now) (drop other spare.now)) }
+// The number that comes up after `done` if its message is handed out, or what stops it. The lines are not both at their ends.
+pub fn up_next<'a>(main: Line<'a>, spare: Line<'a>, done: u32) -> Result<u32, Stop>
+    requires { LinesLeft main spare done }
+    ensures comes { MatchResult result (λ number. (number ≡ suc done) × (stop_of (suc done) (left_of main.entry) (left_of spare.entry) ≡ 0)) (λ stop. stop_number stop ≡ stop_of (suc done) (left_of main.entry) (left_of spare.entry)) }
     ensures few { suc done < 4294967296 }
 {
-    let here = number_at(main, at);
-    let there = number_at(spare, other);
+    let here = main.number();
+    let there = spare.number();
     let number = done + 1;
     if here != number {
         if there != number {
@@ -120,38 +153,19 @@ pub fn up_next(main: &[u8], at: usize, spare: &[u8], other: usize, done: u32) ->
     if there != number {
         return Ok(number);
     }
-    if same_messages(main, at, spare, other) {
+    if same_messages(main, spare) {
         return Ok(number);
     }
     Err(Stop::Differ)
 }
 
 // The message of the number that comes up, as a part of whichever line's memory has it, main first.
-pub fn next_part<'a>(
-    main: &'a [u8],
-    at: usize,
-    spare: &'a [u8],
-    other: usize,
-    number: u32,
-) -> &'a [u8]
-    requires { LinesReady main.now spare.now at other number }
-    ensures { result.now ≡ part_of number (drop at main.now) (drop other spare.now) }
+pub fn next_part<'a>(main: Line<'a>, spare: Line<'a>, number: u32) -> &'a [u8]
+    requires { LinesReady main spare number }
+    ensures { result.now ≡ part_of number (left_of main.entry) (left_of spare.entry) }
 {
-    if number_at(main, at) == number {
-        return message_at(main, at);
+    if main.number() == number {
+        return main.message();
     }
-    message_at(spare, other)
-}
-
-// The position on a line once a number's message is handed out.
-pub fn moved(line: &[u8], at: usize, number: u32) -> usize
-    requires { LineReady line.now at number }
-    ensures { result ≡ at + advance_of number (drop at line.now) }
-{
-    if number_at(line, at) != number {
-        return at;
-    }
-    let from = at + 4;
-    let length = wire::u16_at(line, from);
-    from + length as usize
+    spare.message()
 }

@@ -5,6 +5,7 @@ use mathlib.Core.List.{List, ◌++◌}
 use Prim.Native.Nat.{ℕ, zero, suc, ◌+◌, ◌-◌, ◌≤◌, ◌<◌, zero-le}
 use native.Mathlib.Omega.{arith}
 use lib.Dec.{leb}
+use denote.Bor.{Bor}
 use lib.ListN.{length, take, drop, replicate, length-drop}
 use lib.Seq.{drop-drop}
 use borrow.Author.Tests.{leb-true, leb-false}
@@ -22,10 +23,11 @@ use Rattle.places.specs.Layout.{size, venue_of, Dense, Loaded}
 use Rattle.answers.specs.declared.Stepped.{Stepped}
 use Rattle.messages.specs.Tries.{Tries}
 use Rattle.feed.specs.Feed.{Part, parts_of, faultless, next, message, stop, feed}
-use Rattle.feed.specs.Requirements.{LineReady, LinesReady}
+use Rattle.feed.specs.declared.Line.{Line}
+use Rattle.feed.specs.Requirements.{LineReady, LinesReady, LinesLeft}
 use Rattle.feed.specs.declared.Stop.{Stop}
 use Rattle.feed.specs.declared.Stop.TheVariants.{Differ, Lost}
-use Rattle.feed.specs.Cursors.{ready, stop_of, stop_number, part_of, up_next, advance_of}
+use Rattle.feed.specs.Cursors.{left_of, ready, stop_of, stop_number, part_of, up_next, advance_of, line_after}
 use Rattle.feed.specs.Turns.{hands, fed_from}
 use Rattle.feed.proofs.FeedRuns.{hands-full, hands_more, fed-on, fed-stop, feed-is, feed-not}
 use Rattle.feed.proofs.Ahead.{Ahead, ahead-start, ahead-moved, ahead-ready, advance-within, some-move, next_up, next-end, next-whole, up-message, up-stop}
@@ -49,15 +51,14 @@ module _ (room : ℕ) (main spare : List ℕ) (v : Venue) (fresh : v ≡ fresh_v
 
 -- What the parts of a turn ask ----------------------------------------------------------------
 
-pub asked-one : (n d i : ℕ) (l : List ℕ) → n ≡ suc d → ready d (drop i l) ≡ true → LineReady l i n
-asked-one n d i l e r = let z : d ≡ n - 1 = omega arith in record { numbered = omega arith; stands = subst (λ (k : ℕ). ready k (drop i l) ≡ true) z r }
+pub asked-one : (n d : ℕ) (l : Line) → n ≡ suc d → ready d (left_of l) ≡ true → LineReady l n
+asked-one n d l e r = let z : d ≡ n - 1 = omega arith in record { numbered = omega arith; stands = subst (λ (k : ℕ). ready k (left_of l) ≡ true) z r }
 
-pub asked : (n d k i j : ℕ) (m s : List ℕ) → n ≡ suc d → ready d (drop i m) ≡ true → ready d (drop j s) ≡ true →
-    k ≡ stop_of (suc d) (drop i m) (drop j s) → k ≡ 0 → LinesReady m s i j n
-asked n d k i j m s e a b f z =
-    let x = asked-one n d i m e a in
-    let y = asked-one n d j s e b in
-    record { numbered = x.numbered; main = x.stands; spare = y.stands; goes = ap (λ (h : ℕ). stop_of h (drop i m) (drop j s)) e ∙ sym f ∙ z }
+pub asked : (n d k : ℕ) (m s : Line) → n ≡ suc d → LinesLeft m s d → k ≡ stop_of (suc d) (left_of m) (left_of s) → k ≡ 0 → LinesReady m s n
+asked n d k m s e w f z =
+    let x = asked-one n d m e w.main in
+    let y = asked-one n d s e w.spare in
+    record { numbered = x.numbered; main = x.stands; spare = y.stands; goes = ap (λ (h : ℕ). stop_of h (left_of m) (left_of s)) e ∙ sym f ∙ z }
 
 -- what stops it has a number
 pub stop-some : (s : Stop) → stop_number s ≡ 0 → ⊥
@@ -66,19 +67,19 @@ stop-some Lost e = absurd (omega arith)
 
 -- A turn --------------------------------------------------------------------------------------
 
-module _ (t : FeedProgress) (main spare : List ℕ) where
+module _ (t : FeedProgress) where
   abbrev main_left : List ℕ
-  main_left = drop t.main main
+  main_left = left_of t.main
 
   abbrev spare_left : List ℕ
-  spare_left = drop t.spare spare
+  spare_left = left_of t.spare
 
   abbrev number : ℕ
   number = suc t.done
 
   -- 19 or 20 comes up
   pub turn_stopped : (b l : List ℕ) (k : ℕ) → k ≡ stop_of number main_left spare_left → (k ≡ 0 → ⊥) → t.written ≤ length l → Dense b → SoundAt number (venue_of b) →
-      Feeds main spare t b l (stops_at t k) b l
+      Feeds t b l (stops_at t k) b l
   turn_stopped b l k e z w d s =
       record {
         turned = λ fuel ms ss up. turn-ends _ _ k t.done t.written l b l z w refl
@@ -118,7 +119,7 @@ module _ (t : FeedProgress) (main spare : List ℕ) where
 
     -- the records do not fit
     pub turn-full : length l - t.written < r.written →
-        Feeds main spare t b₀ l (stops_at t 10) b back
+        Feeds t b₀ l (stops_at t 10) b back
     turn-full h =
         let same = venue-kept done t.written b₀ b l ys r w tried h in
         record {
@@ -133,14 +134,16 @@ module _ (t : FeedProgress) (main spare : List ℕ) where
         }
 
     -- they do
-    pub turn-handed : r.written ≤ length l - t.written → (x y : ℕ) → x ≡ t.main + advance_of n main_left → y ≡ t.spare + advance_of n spare_left →
-        Feeds main spare t b₀ l (record { number = 0; done = n; main = x; spare = y; written = t.written + r.written }) b back
+    pub turn-handed : r.written ≤ length l - t.written → (x y : Line) → x ≡ line_after n t.main → y ≡ line_after n t.spare →
+        Feeds t b₀ l (record { number = 0; done = n; main = x; spare = y; written = t.written + r.written }) b back
     turn-handed h x y x-is y-is =
         let q = length-is done t.written b₀ b l ys r w tried h in
         let same = venue-is done t.written b₀ b l ys r w tried h in
         let far = some-move number main_left spare_left free in
-        let xx : x ≡ t.main + advance_of number main_left = x-is ∙ ap (λ (k : ℕ). t.main + advance_of k main_left) n-is in
-        let yy : y ≡ t.spare + advance_of number spare_left = y-is ∙ ap (λ (k : ℕ). t.spare + advance_of k spare_left) n-is in
+        let xx : x ≡ line_after number t.main = x-is ∙ ap (λ (k : ℕ). line_after k t.main) n-is in
+        let yy : y ≡ line_after number t.spare = y-is ∙ ap (λ (k : ℕ). line_after k t.spare) n-is in
+        let x-at : x.at ≡ t.main.at + advance_of number main_left = ap (λ (l : Line). l.at) xx in
+        let y-at : y.at ≡ t.spare.at + advance_of number spare_left = ap (λ (l : Line). l.at) yy in
         let left : room - length (encode_all rs) ≡ length l - (t.written + r.written) = omega arith in
         record {
           turned = λ fuel ms ss up. turn-does done t.written b₀ b l ys r w tried h _ _ 0 t.done n n-is
@@ -167,25 +170,29 @@ left_feed main spare l₀ b t = fed_from (length main + length spare - t.done) (
 pub record Feeding (main spare l₀ b l : List ℕ) (t : FeedProgress) : Type 0 where
   pub sofar : Sofar (whole_feed main spare l₀) l₀ b l t.number t.done t.written (left_feed main spare l₀ b t)
   pub going : t.number ≡ 0
-  pub on-main : Ahead t.done (drop t.main main) (parts_of main)
-  pub on-spare : Ahead t.done (drop t.spare spare) (parts_of spare)
-  pub main-in : t.main ≤ length main
-  pub spare-in : t.spare ≤ length spare
-  pub count : t.done ≤ t.main + t.spare
+  pub main-is : t.main.bytes.now ≡ main
+  pub spare-is : t.spare.bytes.now ≡ spare
+  pub on-main : Ahead t.done (left_of t.main) (parts_of main)
+  pub on-spare : Ahead t.done (left_of t.spare) (parts_of spare)
+  pub main-in : t.main.at ≤ length t.main.bytes.now
+  pub spare-in : t.spare.at ≤ length t.spare.bytes.now
+  pub count : t.done ≤ t.main.at + t.spare.at
   pub dense : Dense b
   pub sound : SoundAt (suc t.done) (venue_of b)
 
 abbrev pub FeedEnded : (main spare l₀ b l : List ℕ) (t : FeedProgress) → Type 0
 FeedEnded main spare l₀ b l t = Ended (whole_feed main spare l₀) l₀ b l t.number t.done t.written
 
-fed-none : (fuel : ℕ) (v : Venue) (n room : ℕ) (m s : List Part) → next (suc n) m s ≡ stop 0 → fed_from fuel v n room m s ≡ ends 0 v
-fed-none zero v n room m s e = unfold fed_from in refl
-fed-none (suc fuel) v n room m s e = fed-stop fuel v n room m s 0 e
+fed-none : (fuel : ℕ) (v : Venue) (n free : ℕ) (m s : List Part) → next (suc n) m s ≡ stop 0 → fed_from fuel v n free m s ≡ ends 0 v
+fed-none zero v n free m s e = unfold fed_from in refl
+fed-none (suc fuel) v n free m s e = fed-stop fuel v n free m s 0 e
 
 -- it begins with the numbers of a fresh venue
-pub feeding-start : (main spare b l : List ℕ) → length b ≡ size → Loaded fresh_venue b → faultless main ≡ true → faultless spare ≡ true →
-    Feeding main spare l b l (record { number = 0; done = 0; main = 0; spare = 0; written = 0 })
-feeding-start main spare b l n f a c =
+pub feeding-start : (m s : Bor (List ℕ)) (b l : List ℕ) → length b ≡ size → Loaded fresh_venue b → faultless m.now ≡ true → faultless s.now ≡ true →
+    Feeding m.now s.now l b l (record { number = 0; done = 0; main = record { bytes = m; at = 0 }; spare = record { bytes = s; at = 0 }; written = 0 })
+feeding-start m s b l n f a c =
+    let main = m.now in
+    let spare = s.now in
     let p : length main + length spare ≡ length main + length spare - 0 = omega arith in
     let q : length l ≡ length l - 0 = omega arith in
     record {
@@ -195,6 +202,8 @@ feeding-start main spare b l n f a c =
           ∙ ap (λ (v : Venue). fed_from (length main + length spare - 0) v 0 (length l - 0) (parts_of main) (parts_of spare)) (sym f.venue)))
           (sofar-start (whole_feed main spare l) l b n);
       going = refl;
+      main-is = refl;
+      spare-is = refl;
       on-main = ahead-start main a;
       on-spare = ahead-start spare c;
       main-in = zero-le;
@@ -214,31 +223,31 @@ not-ends a b at other h k e = go (leb a at) refl (leb b other) refl e
     go false f y g e = let z = leb-false a at f in omega arith
 
 -- a line once a number's message is handed out
-moved_to : (n n' at at' : ℕ) (line : List ℕ) (ps : List Part) → n' ≡ suc n → at' ≡ at + advance_of (suc n) (drop at line) → Ahead n (drop at line) ps → Ahead n' (drop at' line) ps
-moved_to n n' at at' line ps d e a =
-    subst (λ (k : ℕ). Ahead k (drop at' line) ps) (sym d)
-    (subst (λ (xs : List ℕ). Ahead (suc n) xs ps) (drop-drop (advance_of (suc n) (drop at line)) at line ∙ ap (λ (k : ℕ). drop k line) (sym e)) (ahead-moved n (drop at line) ps a))
+moved_to : (n n' : ℕ) (l l' : Line) (ps : List Part) → n' ≡ suc n → l' ≡ line_after (suc n) l → Ahead n (left_of l) ps → Ahead n' (left_of l') ps
+moved_to n n' l l' ps d e a =
+    subst (λ (k : ℕ). Ahead k (left_of l') ps) (sym d)
+    (subst (λ (xs : List ℕ). Ahead (suc n) xs ps) (drop-drop (advance_of (suc n) (left_of l)) l.at l.bytes.now ∙ ap left_of (sym e)) (ahead-moved n (left_of l) ps a))
 
 module _ (main spare l₀ b l : List ℕ) (t : FeedProgress) (g : Feeding main spare l₀ b l t) where
-  pub feeding-end : (leb (length main) t.main && leb (length spare) t.spare) ≡ true → FeedEnded main spare l₀ b l t
+  pub feeding-end : (leb (length t.main.bytes.now) t.main.at && leb (length t.spare.bytes.now) t.spare.at) ≡ true → FeedEnded main spare l₀ b l t
   feeding-end e =
-      let x = leb-true (length main) t.main (and_l _ _ e) in
-      let y = leb-true (length spare) t.spare (and_r (leb (length main) t.main) _ e) in
-      let p = length-drop t.main main in
-      let q = length-drop t.spare spare in
+      let x = leb-true (length t.main.bytes.now) t.main.at (and_l _ _ e) in
+      let y = leb-true (length t.spare.bytes.now) t.spare.at (and_r (leb (length t.main.bytes.now) t.main.at) _ e) in
+      let p = length-drop t.main.at t.main.bytes.now in
+      let q = length-drop t.spare.at t.spare.bytes.now in
       sofar-ends (whole_feed main spare l₀) l₀ b l t.number t.done t.written (left_feed main spare l₀ b t)
       (goes-on t.number (venue_of b) (left_feed main spare l₀ b t) g.going
       ∙ fed-none (length main + length spare - t.done) (venue_of b) t.done (length l₀ - t.written) (parts_of main) (parts_of spare)
-      (next-end t.done (drop t.main main) (drop t.spare spare) (parts_of main) (parts_of spare) g.on-main g.on-spare (omega arith) (omega arith))
+      (next-end t.done (left_of t.main) (left_of t.spare) (parts_of main) (parts_of spare) g.on-main g.on-spare (omega arith) (omega arith))
       ∙ ap (λ (k : ℕ). ends k (venue_of b)) (sym g.going))
       g.sofar
 
-  module _ (ahead : t.main + t.spare < length main + length spare) (r : FeedProgress) (b' l' : List ℕ) (slice : length b' ≡ length b) (same : length l' ≡ length l)
-      (turn : Feeds main spare t b l r b' l') where
-    some_left : 0 < length (drop t.main main) + length (drop t.spare spare)
+  module _ (ahead : t.main.at + t.spare.at < length t.main.bytes.now + length t.spare.bytes.now) (r : FeedProgress) (b' l' : List ℕ) (slice : length b' ≡ length b) (same : length l' ≡ length l)
+      (turn : Feeds t b l r b' l') where
+    some_left : 0 < length (left_of t.main) + length (left_of t.spare)
     some_left =
-        let p = length-drop t.main main in
-        let q = length-drop t.spare spare in
+        let p = length-drop t.main.at t.main.bytes.now in
+        let q = length-drop t.spare.at t.spare.bytes.now in
         let x = g.main-in in
         let y = g.spare-in in
         omega arith
@@ -254,24 +263,32 @@ module _ (main spare l₀ b l : List ℕ) (t : FeedProgress) (g : Feeding main s
         g.sofar)
         g.going r.number r.done r.written b' l' _ slice same
         (turn.turned fuel (parts_of main) (parts_of spare)
-        (next_up t.done (drop t.main main) (drop t.spare spare) (parts_of main) (parts_of spare) g.on-main g.on-spare some_left))
+        (next_up t.done (left_of t.main) (left_of t.spare) (parts_of main) (parts_of spare) g.on-main g.on-spare some_left))
 
     fuel-left : length main + length spare - t.done ≡ suc (length main + length spare - suc t.done)
-    fuel-left = let c = g.count in omega arith
+    fuel-left =
+        let c = g.count in
+        let m = ap length g.main-is in
+        let s = ap length g.spare-is in
+        omega arith
 
     pub feeding-again : r.number ≡ 0 → Feeding main spare l₀ b' l' r
     feeding-again e =
         let m = turn.moved e in
         let d = m.0 in
-        let x = m.1 in
-        let y = m.2 in
+        let x : r.main.at ≡ t.main.at + advance_of (suc t.done) (left_of t.main) = ap (λ (l : Line). l.at) m.1 in
+        let y : r.spare.at ≡ t.spare.at + advance_of (suc t.done) (left_of t.spare) = ap (λ (l : Line). l.at) m.2 in
+        let m-same : r.main.bytes.now ≡ t.main.bytes.now = ap (λ (l : Line). l.bytes.now) m.1 in
+        let s-same : r.spare.bytes.now ≡ t.spare.bytes.now = ap (λ (l : Line). l.bytes.now) m.2 in
+        let m-long = ap length m-same in
+        let s-long = ap length s-same in
         let far = m.3 in
         let mi = g.main-in in
         let si = g.spare-in in
-        let p = length-drop t.main main in
-        let q = length-drop t.spare spare in
-        let pm = advance-within t.done (drop t.main main) (ahead-ready t.done _ _ g.on-main) in
-        let ps = advance-within t.done (drop t.spare spare) (ahead-ready t.done _ _ g.on-spare) in
+        let p = length-drop t.main.at t.main.bytes.now in
+        let q = length-drop t.spare.at t.spare.bytes.now in
+        let pm = advance-within t.done (left_of t.main) (ahead-ready t.done _ _ g.on-main) in
+        let ps = advance-within t.done (left_of t.spare) (ahead-ready t.done _ _ g.on-spare) in
         let c = g.count in
         record {
           sofar = sofar-as (whole_feed main spare l₀) l₀ b' l' r.number r.done r.written _ (left_feed main spare l₀ b' r)
@@ -279,8 +296,10 @@ module _ (main spare l₀ b l : List ℕ) (t : FeedProgress) (g : Feeding main s
               (ap₂ (λ (i j : ℕ). fed_from (length main + length spare - i) (venue_of b') r.done (j - r.written) (parts_of main) (parts_of spare)) (sym d) g.sofar.len))
               (turned (length main + length spare - suc t.done) fuel-left);
           going = e;
-          on-main = moved_to t.done r.done t.main r.main main (parts_of main) d x g.on-main;
-          on-spare = moved_to t.done r.done t.spare r.spare spare (parts_of spare) d y g.on-spare;
+          main-is = m-same ∙ g.main-is;
+          spare-is = s-same ∙ g.spare-is;
+          on-main = moved_to t.done r.done t.main r.main (parts_of main) d m.1 g.on-main;
+          on-spare = moved_to t.done r.done t.spare r.spare (parts_of spare) d m.2 g.on-spare;
           main-in = omega arith;
           spare-in = omega arith;
           count = omega arith;

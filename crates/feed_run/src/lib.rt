@@ -7,60 +7,47 @@ ghost use Rattle.engine.specs.Runs.{call_of};
 ghost use Rattle.feed_run.specs.Feeds.{stops_at, FeedReady, Feeds};
 ghost use Rattle.feed_run.specs.Requirements.{LinesFaultless};
 
+use feed::Line;
 use places::Numbers;
 use rules::Returned;
 
 // Two lines of one feed --------------------------------------------------------------------------
 
-// Where the handing out stands: its number, the messages done, the position on each line, and the bytes written.
+// Where the handing out stands: its number, the messages done, each line with the position on it, and the bytes written.
 #[derive(Clone, Copy)]
-pub struct FeedProgress {
+pub struct FeedProgress<'a> {
     pub number: u8,
     pub done: u32,
-    pub main: usize,
-    pub spare: usize,
+    pub main: Line<'a>,
+    pub spare: Line<'a>,
     pub written: usize,
 }
 
 // The handing out stopped with a number, where it stands.
-fn stop_at(t: FeedProgress, number: u8) -> FeedProgress
-    ensures { result ≡ stops_at t number }
+fn stop_at<'a>(t: FeedProgress<'a>, number: u8) -> FeedProgress<'a>
+    ensures { result ≡ stops_at t.entry number }
 {
-    FeedProgress {
-        number,
-        done: t.done,
-        main: t.main,
-        spare: t.spare,
-        written: t.written,
-    }
+    FeedProgress { number, ..t }
 }
 
 // One message more, or what stops it. The lines are not both at their ends.
-fn hand_out<'a>(
-    t: FeedProgress,
-    numbers: &mut Numbers,
-    main: &'a [u8],
-    spare: &'a [u8],
-    report: &mut [u8],
-) -> FeedProgress
-    requires { FeedReady t numbers.old main.now spare.now report.old }
-    ensures { Feeds main.now spare.now t numbers.old report.old result numbers.new report.new }
+fn hand_out<'a>(t: FeedProgress<'a>, numbers: &mut Numbers, report: &mut [u8]) -> FeedProgress<'a>
+    requires { FeedReady t numbers.old report.old }
+    ensures { Feeds t.entry numbers.old report.old result numbers.new report.new }
 {
-    let at = t.main;
-    let other = t.spare;
     let from = t.written;
-    let number = match feed::up_next(main, at, spare, other, t.done) {
+    let number = match feed::up_next(t.main, t.spare, t.done) {
         Ok(number) => number,
         Err(stop) => return stop_at(t, feed::stop_number(stop)),
     };
-    let part = feed::next_part(main, at, spare, other, number);
+    let part = feed::next_part(t.main, t.spare, number);
     let r = messages::try_step(numbers, number, part, &mut report[from..]);
     let written = r.written;
     if report.len() - from < written {
         return stop_at(t, 10);
     }
-    let next = feed::moved(main, at, number);
-    let after = feed::moved(spare, other, number);
+    let next = t.main.moved(number);
+    let after = t.spare.moved(number);
     FeedProgress {
         number: 0,
         done: number,
@@ -79,13 +66,16 @@ fn feed_lines<'a>(main: &'a [u8], spare: &'a [u8], report: &mut [u8]) -> Returne
     let mut t = FeedProgress {
         number: 0,
         done: 0,
-        main: 0,
-        spare: 0,
+        main: Line { bytes: main, at: 0 },
+        spare: Line {
+            bytes: spare,
+            at: 0,
+        },
         written: 0,
     };
     // Each line's position moves on by its own messages' lengths, so no range is known beforehand.
-    while !feed::at_ends(main, t.main, spare, t.spare) {
-        t = hand_out(t, &mut numbers, main, spare, report);
+    while !feed::at_ends(t.main, t.spare) {
+        t = hand_out(t, &mut numbers, report);
         if t.number != 0 {
             break;
         }

@@ -1,9 +1,9 @@
 -- `feed::at_ends` meets its contract.
-use borrow.Author.Tests.{le-leb, lt-leb}
+use mathlib.Core.Path.{sym, ◌∙◌}
 use Rattle.feed.proofs.at_ends.Goals as goal
 
-pub returns-then-main-at : goal.returns-then-main-at
-returns-then-main-at c = rw (le-leb _ _ c.if-main-at.true)
+pub returns-then-is_at_end : goal.returns-then-is_at_end
+returns-then-is_at_end c = rw (sym c.is_at_end.ensures ∙ c.if-is_at_end.true) c.is_at_end-then-is_at_end.ensures
 
 pub returns : goal.returns
-returns c = rw (lt-leb _ _ c.if-main-at.false)
+returns c = rw (sym c.is_at_end.ensures ∙ c.if-is_at_end.false)

@@ -10,11 +10,8 @@ loop-at-init c = tested-start c.args.line.now
 pub returns-in_default : goal.returns-in_default
 returns-in_default c = let g = c.loop-at in tested-not _ g.last g.at g.invariant (omega arith) (part-none _ _ (sym c.in_default.is ∙ c.part_length.ensures))
 
-pub number_at-last-requires : goal.number_at-last-requires
-number_at-last-requires c = tt
-
-pub overflow_add-at-in-loop-at : goal.overflow_add-at-in-loop-at
-overflow_add-at-in-loop-at c = let g = c.loop-at in let p = part-some _ _ _ (sym c.in-Some.is ∙ c.part_length.ensures) in let w = part-within c.args.line.now g.last g.at g.invariant
+pub overflow_add-at : goal.overflow_add-at
+overflow_add-at c = let g = c.loop-at in let p = part-some _ _ _ (sym c.in-Some.is ∙ c.part_length.ensures) in let w = part-within c.args.line.now g.last g.at g.invariant
     (omega arith) _ _ p.0 p.1 refl in omega arith
 
 pub loop-at-smaller : goal.loop-at-smaller
@@ -23,7 +20,7 @@ loop-at-smaller c = let g = c.loop-at in let p = part-some _ _ _ (sym c.in-Some.
 
 pub loop-at-preserved : goal.loop-at-preserved
 loop-at-preserved c = let g = c.loop-at in let p = part-some _ _ _ (sym c.in-Some.is ∙ c.part_length.ensures) in tested-on c.args.line.now g.last g.at g.invariant (omega arith) _ _
-    p.0 p.1 c.number_at-last.ensures
+    p.0 (c.from.ensures ∙ p.1) c.number-last.ensures
 
 pub returns : goal.returns
 returns c = let g = c.loop-at in tested-end c.args.line.now g.last g.at g.invariant (omega arith)

@@ -5,4 +5,4 @@ use Rattle.feed.proofs.Cursors.{same-pointwise}
 use Rattle.feed.proofs.same_messages.Goals as goal
 
 pub returns : goal.returns
-returns c = c.eq.ensures ∙ same-pointwise _ _ ∙ ap₂ same c.message_at-a.ensures c.message_at-b.ensures
+returns c = c.eq.ensures ∙ same-pointwise _ _ ∙ ap₂ same c.message-a.ensures c.message-b.ensures
