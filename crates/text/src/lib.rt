@@ -74,8 +74,8 @@ fn put_words(out: &mut [u8], at: usize, fields: &[u32]) -> usize
     ensures { seen out.new result ≡ seen out.old at types words fields.now }
 {
     let mut pos = at;
-    for i in 0..fields.len() {
-        pos = put_word(out, pos, fields[i]);
+    for x in fields {
+        pos = put_word(out, pos, *x);
     }
     pos
 }
