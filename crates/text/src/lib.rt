@@ -27,7 +27,7 @@ fn digit(n: u32) -> u8
     requires { n < 10 }
     ensures { result ≡ 48 + n }
 {
-    48 + n as u8
+    b'0' + n as u8
 }
 
 // A number in decimal.
@@ -49,7 +49,7 @@ fn put_signed(out: &mut [u8], at: usize, bits: u32) -> usize
     if bits < 2147483648 {
         return put_number(out, at, bits);
     }
-    let pos = put_byte(out, at, 45);
+    let pos = put_byte(out, at, b'-');
     put_number(out, pos, 4294967295 - bits + 1)
 }
 
@@ -57,7 +57,7 @@ fn put_signed(out: &mut [u8], at: usize, bits: u32) -> usize
 fn put_word(out: &mut [u8], at: usize, n: u32) -> usize
     ensures { seen out.new result ≡ seen out.old at types word n }
 {
-    let pos = put_byte(out, at, 32);
+    let pos = put_byte(out, at, b' ');
     put_number(out, pos, n)
 }
 
@@ -65,7 +65,7 @@ fn put_word(out: &mut [u8], at: usize, n: u32) -> usize
 fn put_signed_word(out: &mut [u8], at: usize, bits: u32) -> usize
     ensures { seen out.new result ≡ seen out.old at types signed_word (as_signed bits) }
 {
-    let pos = put_byte(out, at, 32);
+    let pos = put_byte(out, at, b' ');
     put_signed(out, pos, bits)
 }
 
@@ -88,7 +88,7 @@ pub fn put_fields(out: &mut [u8], at: usize, kind: u32, fields: &[u32]) -> usize
 {
     let mut pos = put_number(out, at, kind);
     pos = put_words(out, pos, fields);
-    put_byte(out, pos, 10)
+    put_byte(out, pos, b'\n')
 }
 
 // The byte at a position as a number of 32 bits.
@@ -141,7 +141,7 @@ fn put_pair(out: &mut [u8], at: usize, s: &[u8]) -> usize
     pos = put_word(out, pos, wire::u32_at(s, 4));
     pos = put_signed_word(out, pos, wire::u32_at(s, 8));
     pos = put_word(out, pos, wire::u32_at(s, 12));
-    put_byte(out, pos, 10)
+    put_byte(out, pos, b'\n')
 }
 
 // 67: complex id, series, side, price, displayed, quantity.
@@ -190,7 +190,7 @@ fn put_crossed(out: &mut [u8], at: usize, s: &[u8]) -> usize
     pos = put_word(out, pos, wire::u32_at(s, 8));
     pos = put_signed_word(out, pos, wire::u32_at(s, 12));
     pos = put_word(out, pos, wire::u32_at(s, 16));
-    put_byte(out, pos, 10)
+    put_byte(out, pos, b'\n')
 }
 
 // 71: id, quantity.
