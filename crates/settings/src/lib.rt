@@ -28,8 +28,8 @@ fn value_at(editions: &[Edition; 32], number: u32, f: u8) -> u8
     ensures { result ≡ value_at editions.now number f }
 {
     let mut x = arithmetic::base_figure(f);
-    for i in 0..32 {
-        x = value_after(editions[i], number, f, x);
+    for e in editions {
+        x = value_after(*e, number, f, x);
     }
     x
 }

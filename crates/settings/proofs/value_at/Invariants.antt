@@ -4,5 +4,5 @@ use Rattle.settings.specs.Forced.{value_at}
 use Rattle.settings.proofs.ForcedLaws.{value_from}
 use Rattle.settings.proofs.value_at.Given as goal
 
-abbrev pub invariant-loop-i : goal.invariant-loop-i
-invariant-loop-i l = value_from l.number l.f l.x (drop l.i l.editions) ≡ value_at l.editions l.number l.f
+abbrev pub invariant-loop-e : goal.invariant-loop-e
+invariant-loop-e l = value_from l.number l.f l.x (drop l.e-index l.editions) ≡ value_at l.editions l.number l.f
