@@ -33,34 +33,19 @@ fn advance(
     requires { RunReady t head numbers.old messages.now report.old }
     ensures { Advances messages.now t numbers.old report.old result numbers.new report.new }
 {
-    let at = t.at;
-    let pos = t.written;
-    let done = t.done;
-    if done == 4294967295 {
-        return RunProgress {
-            number: 10,
-            done,
-            at,
-            written: pos,
-        };
+    if t.done == 4294967295 {
+        return RunProgress { number: 10, ..t };
     }
-    let r = messages::try_step(numbers, done + 1, &messages[at..], &mut report[pos..]);
-    let written = r.written;
-    if report.len() - pos < written {
-        return RunProgress {
-            number: 10,
-            done,
-            at,
-            written: pos,
-        };
+    let done = t.done + 1;
+    let r = messages::try_step(numbers, done, &messages[t.at..], &mut report[t.written..]);
+    if report.len() - t.written < r.written {
+        return RunProgress { number: 10, ..t };
     }
-    let number = reader::head_number(head);
-    let length = reader::head_length(head);
     RunProgress {
-        number,
-        done: done + 1,
-        at: at + length as usize,
-        written: pos + written,
+        number: reader::head_number(head),
+        done,
+        at: t.at + usize::from(reader::head_length(head)),
+        written: t.written + r.written,
     }
 }
 
