@@ -39,11 +39,7 @@ fn set_status(numbers: &mut Numbers, s: u8, status: u8, out: &mut [u8], at: usiz
     ensures counts { SameCounts numbers.old numbers.new }
 {
     let old = places::listed_at(numbers, s as usize);
-    let x = Listed {
-        status,
-        bid: old.bid,
-        offer: old.offer,
-    };
+    let x = Listed { status, ..old };
     place_writes::put_listed(numbers, s as usize, x);
     settling::settle_all(numbers, out, at)
 }
