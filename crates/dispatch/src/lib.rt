@@ -81,17 +81,24 @@ pub struct TurnReturned {
     pub served: u8,
 }
 
-// A turn that serves no venue: a report of zeros.
-fn idle(number: u8, report: &mut [u8]) -> TurnReturned
-    ensures { (result ≡ idle_returned number) × (report.new ≡ sheet (length report.old) []) }
+// What a turn returns that does no message.
+fn unserved(number: u8) -> TurnReturned
+    ensures { result ≡ idle_returned number }
 {
-    records::zero_from(report, 0);
     TurnReturned {
         number,
         done: 0,
         written: 0,
         served: 4,
     }
+}
+
+// A turn that serves no venue: a report of zeros.
+fn idle(number: u8, report: &mut [u8]) -> TurnReturned
+    ensures { (result ≡ idle_returned number) × (report.new ≡ sheet (length report.old) []) }
+{
+    records::zero_from(report, 0);
+    unserved(number)
 }
 
 // The next venue that has a message waiting does the message at the head of its wait; the call with it checks this venue itself.
@@ -113,15 +120,9 @@ pub fn turn(layer: &mut [u8], report: &mut [u8]) -> TurnReturned
     let end = at + lanes::LANE;
     let r = call_head(&layer[at..end], report);
     if r.done == 0 {
-        return TurnReturned {
-            number: r.number,
-            done: 0,
-            written: 0,
-            served: 4,
-        };
+        return unserved(r.number);
     }
-    let after = r.venue;
-    lanes::advance(&mut layer[at..end], r.number, after);
+    lanes::advance(&mut layer[at..end], r.number, r.venue);
     layer[lanes::LAST] = v as u8;
     TurnReturned {
         number: r.number,

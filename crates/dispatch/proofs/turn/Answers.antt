@@ -73,7 +73,7 @@ pub returns-then-r-eq0 : goal.returns-then-r-eq0
 returns-then-r-eq0 c =
     let serves : Serves c.args.layer.now c.in-Some.v = serving _ _ _ _ _
     c.if-layer-ne-LAYER.false c.in-Some.is c.next_waiting-next.ensures c.unwrap_or.ensures c.layer_sound.ensures c.if-not-layer_sound.false in
-    turn-ended c.args.layer.now
+    ap (λ r. turn_reply_of r c.args.layer.now c.call_head-r.new.report) c.unserved.ensures ∙ turn-ended c.args.layer.now
     c.in-Some.v
     serves
     (lane_size * c.in-Some.v + lane_size -
