@@ -28,7 +28,7 @@ fn set_away(numbers: &mut Numbers, s: u8, bid: u32, offer: u32, out: &mut [u8], 
 {
     let status = prices::status_of(numbers, s);
     let x = Listed { status, bid, offer };
-    place_writes::put_listed(numbers, s as usize, x);
+    place_writes::put_listed(numbers, usize::from(s), x);
     settling::settle_all(numbers, out, at)
 }
 
@@ -38,9 +38,9 @@ fn set_status(numbers: &mut Numbers, s: u8, status: u8, out: &mut [u8], at: usiz
     ensures result_after { stage (venue_of numbers.new) out.new result ≡ seen out.old at does settle (set_status s status (venue_of numbers.old)) }
     ensures counts { SameCounts numbers.old numbers.new }
 {
-    let old = places::listed_at(numbers, s as usize);
+    let old = places::listed_at(numbers, usize::from(s));
     let x = Listed { status, ..old };
-    place_writes::put_listed(numbers, s as usize, x);
+    place_writes::put_listed(numbers, usize::from(s), x);
     settling::settle_all(numbers, out, at)
 }
 

@@ -17,6 +17,6 @@ pub returns : goal.returns
 returns c = record {
   result_after = c.settle_all.ensures.result_after ∙ ap (λ (w : Venue). seen c.args.out.now c.args.at does settle w)
       (away-set (venue_of c.args.numbers.now) _ c.args.s _ _ _
-      c.status_of-status.ensures c.put_listed.ensures.numbers_after);
+      c.status_of-status.ensures (rw c.from.ensures at c.put_listed.ensures.numbers_after));
   counts = counts-on _ _ _ c.put_listed.ensures.counts c.settle_all.ensures.counts;
 }

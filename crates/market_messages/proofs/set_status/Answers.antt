@@ -20,6 +20,6 @@ returns c = record {
       (status-set (venue_of c.args.numbers.now) _ c.args.s _
       c.listed_at-old.result
       (listed-read _ _ c.listed_at-old.result c.requires.series
-      c.listed_at-old.ensures) c.put_listed.ensures.numbers_after);
+      (rw c.from.ensures at c.listed_at-old.ensures)) (rw c.from-2.ensures at c.put_listed.ensures.numbers_after));
   counts = counts-on _ _ _ c.put_listed.ensures.counts c.settle_all.ensures.counts;
 }
