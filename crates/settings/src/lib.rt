@@ -34,20 +34,11 @@ fn value_at(editions: &[Edition; 32], number: u32, f: u8) -> u8
     x
 }
 
-// The eight increments. Each is written out, since a closure for `array::from_fn` would have to take the index, a `usize`, back to a figure.
+// The eight increments.
 fn increments_at(editions: &[Edition; 32], number: u32) -> [u8; 8]
     ensures { result ≡ map (value_at editions.now number) (0 ∷ 1 ∷ 2 ∷ 3 ∷ 4 ∷ 5 ∷ 6 ∷ 7 ∷ []) }
 {
-    [
-        value_at(editions, number, 0),
-        value_at(editions, number, 1),
-        value_at(editions, number, 2),
-        value_at(editions, number, 3),
-        value_at(editions, number, 4),
-        value_at(editions, number, 5),
-        value_at(editions, number, 6),
-        value_at(editions, number, 7),
-    ]
+    [0, 1, 2, 3, 4, 5, 6, 7].map(|f| value_at(editions, number, f))
 }
 
 // The settings at a message number, whatever it is. An unsound venue's are 9 and zeros.
