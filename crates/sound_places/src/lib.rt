@@ -133,9 +133,8 @@ fn listed_in_range(x: Listed) -> bool
 fn series_sound(l: &[Listed; 8]) -> bool
     ensures { result ≡ all listed_in_range l.now }
 {
-    for i in 0..8 {
-        let x = l[i];
-        if !listed_in_range(x) {
+    for x in l.iter() {
+        if !listed_in_range(*x) {
             return false;
         }
     }

@@ -112,16 +112,10 @@ fn legging_in_range(l: Legging) -> bool
     if l.parent == 0 {
         return false;
     }
-    if l.price == 0 {
+    if !arithmetic::is_price(l.price) {
         return false;
     }
-    if 100000 < l.price {
-        return false;
-    }
-    if l.quantity == 0 {
-        return false;
-    }
-    l.quantity <= 10000
+    arithmetic::is_quantity(l.quantity)
 }
 
 // A leg's series and side are these.

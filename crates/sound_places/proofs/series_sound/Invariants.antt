@@ -4,5 +4,5 @@ use Rattle.rules.specs.Base.{all}
 use Rattle.rules.specs.Sound.{listed_in_range}
 use Rattle.sound_places.proofs.series_sound.Given as goal
 
-abbrev pub invariant-loop-i : goal.invariant-loop-i
-invariant-loop-i l = all listed_in_range (drop l.i l.l) ≡ all listed_in_range l.l
+abbrev pub invariant-loop-x : goal.invariant-loop-x
+invariant-loop-x l = all listed_in_range (drop l.x-index l.l) ≡ all listed_in_range l.l
