@@ -75,15 +75,14 @@ fn regulars_sound(l: &[Regular; 128], last: u32) -> bool
     ensures { result ≡ regulars_from last 0 l.now }
 {
     let mut low: u32 = 0;
-    for i in 0..128 {
-        let o = l[i];
+    for (i, o) in l.iter().enumerate() {
         if o.quantity == 0 {
             return all_blank(&l[i..]);
         }
         if o.id <= low {
             return false;
         }
-        if !regular_asked(o, last) {
+        if !regular_asked(*o, last) {
             return false;
         }
         low = o.id;
@@ -97,15 +96,14 @@ fn complexes_sound(l: &[Complex; 32], last: u32) -> bool
     ensures { result ≡ complexes_from last 0 l.now }
 {
     let mut low: u32 = 0;
-    for i in 0..32 {
-        let c = l[i];
+    for (i, c) in l.iter().enumerate() {
         if c.quantity == 0 {
             return all_blank(&l[i..]);
         }
         if c.id <= low {
             return false;
         }
-        if !wire::complex_in_range(c) {
+        if !wire::complex_in_range(*c) {
             return false;
         }
         if last < c.id {
@@ -160,8 +158,7 @@ fn editions_sound(l: &[Edition; 32]) -> bool
 {
     let mut low: u32 = 0;
     let mut past: u32 = 0;
-    for i in 0..32 {
-        let e = l[i];
+    for (i, e) in l.iter().enumerate() {
         if e.edition == 0 {
             return all_blank(&l[i..]);
         }
@@ -171,7 +168,7 @@ fn editions_sound(l: &[Edition; 32]) -> bool
         if e.message <= past {
             return false;
         }
-        if !edition_in_range(e) {
+        if !edition_in_range(*e) {
             return false;
         }
         low = e.edition;
@@ -192,12 +189,11 @@ fn numbers_sound(l: &[u32; 20]) -> bool
     ensures { result ≡ numbers_from 0 l.now }
 {
     let mut low: u32 = 0;
-    for i in 0..20 {
-        let n = l[i];
-        if !is_unfallen(low, n) {
+    for n in l.iter() {
+        if !is_unfallen(low, *n) {
             return false;
         }
-        low = n;
+        low = *n;
     }
     true
 }
