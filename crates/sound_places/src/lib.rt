@@ -2,6 +2,7 @@
 #![tactic(auto)]
 
 ghost use Rattle.std.specs.Prelude.{◌≡◌, ◌&&◌, Bool, leb};
+ghost use Rattle.std.specs.List.{list_all};
 ghost use Rattle.rules.specs.Base.{all};
 ghost use Rattle.rules.specs.Places.{blank_regular, blank_complex, blank_edition};
 ghost use Rattle.rules.specs.Sound.{listed_in_range, edition_in_range};
@@ -47,14 +48,9 @@ impl Place for Edition {
 
 // Whether all of some places are zero.
 fn all_blank<T: Place>(places: &[T]) -> bool
-    ensures { result ≡ all T.blank places.now }
+    ensures { result ≡ list_all T.blank places.now }
 {
-    for place in places {
-        if !place.is_blank() {
-            return false;
-        }
-    }
-    true
+    places.iter().all(|place| place.is_blank())
 }
 
 // A held place is in range, its order shows what it should, and its id is at most the last.
@@ -129,14 +125,9 @@ fn listed_in_range(x: Listed) -> bool
 
 // Every series' status and away prices are in their ranges.
 fn series_sound(l: &[Listed; 8]) -> bool
-    ensures { result ≡ all listed_in_range l.now }
+    ensures { result ≡ list_all listed_in_range l.now }
 {
-    for x in l.iter() {
-        if !listed_in_range(*x) {
-            return false;
-        }
-    }
-    true
+    l.iter().all(|x| listed_in_range(*x))
 }
 
 // A held edition sets an increment or the percent, to a value in its range; any u32 is an edition, and a message's number.
@@ -200,14 +191,9 @@ fn numbers_sound(l: &[u32; 20]) -> bool
 
 // Every series' generations are sound.
 fn generations_sound(l: &[Generations; 8]) -> bool
-    ensures { result ≡ all numbers_sound l.now }
+    ensures { result ≡ list_all (λ g. numbers_from 0 g.messages) l.now }
 {
-    for i in 0..8 {
-        if !numbers_sound(&l[i].messages) {
-            return false;
-        }
-    }
-    true
+    l.iter().all(|g| numbers_sound(&g.messages))
 }
 
 // What is kept beside the orders and the series: editions, generations, and the id that limited sweeps have reached.
