@@ -3,10 +3,9 @@
 
 ghost use Rattle.std.specs.Prelude.{◌≡◌, ◌&&◌, Bool, leb};
 ghost use Rattle.std.specs.List.{list_all};
-ghost use Rattle.rules.specs.Base.{all};
 ghost use Rattle.rules.specs.Places.{blank_regular, blank_complex, blank_edition};
 ghost use Rattle.rules.specs.Sound.{listed_in_range, edition_in_range};
-ghost use Rattle.sound_places.specs.Checked.{asked_regular, regulars_from, complexes_from, editions_from, numbers_from, numbers_sound, kept_sound, places_sound};
+ghost use Rattle.sound_places.specs.Checked.{asked_regular, regulars_from, complexes_from, editions_from, numbers_from, kept_sound, places_sound};
 
 use rules::{Complex, Edition, Generations, Listed, Regular, Venue};
 
