@@ -66,6 +66,7 @@ fn regular_asked(o: Regular, last: u32) -> bool
 }
 
 // Held places come first, each as asked and in rising id; then places that are all zero.
+// It is a loop since each id is compared with the one before it, and the first free place ends the pass.
 fn regulars_sound(l: &[Regular; 128], last: u32) -> bool
     ensures { result ≡ regulars_from last 0 l.now }
 {
