@@ -2,10 +2,10 @@
 #![tactic(auto)]
 
 ghost use Rattle.std.specs.Prelude.{◌≡◌, ◌&&◌, Bool, leb};
-ghost use Rattle.rules.specs.Base.{all};
+ghost use Rattle.std.specs.List.{list_all};
 ghost use Rattle.rules.specs.Places.{blank_regular, blank_complex, blank_edition};
 ghost use Rattle.rules.specs.Sound.{listed_in_range, edition_in_range};
-ghost use Rattle.sound_places.specs.Checked.{asked_regular, regulars_from, complexes_from, editions_from, numbers_from, numbers_sound, kept_sound, places_sound};
+ghost use Rattle.sound_places.specs.Checked.{asked_regular, regulars_from, complexes_from, editions_from, numbers_from, kept_sound, places_sound};
 
 use rules::{Complex, Edition, Generations, Listed, Regular, Venue};
 
@@ -47,14 +47,9 @@ impl Place for Edition {
 
 // Whether all of some places are zero.
 fn all_blank<T: Place>(places: &[T]) -> bool
-    ensures { result ≡ all T.blank places.now }
+    ensures { result ≡ list_all T.blank places.now }
 {
-    for place in places {
-        if !place.is_blank() {
-            return false;
-        }
-    }
-    true
+    places.iter().all(|place| place.is_blank())
 }
 
 // A held place is in range, its order shows what it should, and its id is at most the last.
@@ -71,19 +66,19 @@ fn regular_asked(o: Regular, last: u32) -> bool
 }
 
 // Held places come first, each as asked and in rising id; then places that are all zero.
+// It is a loop since each id is compared with the one before it, and the first free place ends the pass.
 fn regulars_sound(l: &[Regular; 128], last: u32) -> bool
     ensures { result ≡ regulars_from last 0 l.now }
 {
     let mut low: u32 = 0;
-    for i in 0..128 {
-        let o = l[i];
+    for (i, o) in l.iter().enumerate() {
         if o.quantity == 0 {
             return all_blank(&l[i..]);
         }
         if o.id <= low {
             return false;
         }
-        if !regular_asked(o, last) {
+        if !regular_asked(*o, last) {
             return false;
         }
         low = o.id;
@@ -97,15 +92,14 @@ fn complexes_sound(l: &[Complex; 32], last: u32) -> bool
     ensures { result ≡ complexes_from last 0 l.now }
 {
     let mut low: u32 = 0;
-    for i in 0..32 {
-        let c = l[i];
+    for (i, c) in l.iter().enumerate() {
         if c.quantity == 0 {
             return all_blank(&l[i..]);
         }
         if c.id <= low {
             return false;
         }
-        if !wire::complex_in_range(c) {
+        if !wire::complex_in_range(*c) {
             return false;
         }
         if last < c.id {
@@ -131,15 +125,9 @@ fn listed_in_range(x: Listed) -> bool
 
 // Every series' status and away prices are in their ranges.
 fn series_sound(l: &[Listed; 8]) -> bool
-    ensures { result ≡ all listed_in_range l.now }
+    ensures { result ≡ list_all listed_in_range l.now }
 {
-    for i in 0..8 {
-        let x = l[i];
-        if !listed_in_range(x) {
-            return false;
-        }
-    }
-    true
+    l.iter().all(|x| listed_in_range(*x))
 }
 
 // A held edition sets an increment or the percent, to a value in its range; any u32 is an edition, and a message's number.
@@ -161,8 +149,7 @@ fn editions_sound(l: &[Edition; 32]) -> bool
 {
     let mut low: u32 = 0;
     let mut past: u32 = 0;
-    for i in 0..32 {
-        let e = l[i];
+    for (i, e) in l.iter().enumerate() {
         if e.edition == 0 {
             return all_blank(&l[i..]);
         }
@@ -172,7 +159,7 @@ fn editions_sound(l: &[Edition; 32]) -> bool
         if e.message <= past {
             return false;
         }
-        if !edition_in_range(e) {
+        if !edition_in_range(*e) {
             return false;
         }
         low = e.edition;
@@ -193,26 +180,20 @@ fn numbers_sound(l: &[u32; 20]) -> bool
     ensures { result ≡ numbers_from 0 l.now }
 {
     let mut low: u32 = 0;
-    for i in 0..20 {
-        let n = l[i];
-        if !is_unfallen(low, n) {
+    for n in l.iter() {
+        if !is_unfallen(low, *n) {
             return false;
         }
-        low = n;
+        low = *n;
     }
     true
 }
 
 // Every series' generations are sound.
 fn generations_sound(l: &[Generations; 8]) -> bool
-    ensures { result ≡ all numbers_sound l.now }
+    ensures { result ≡ list_all (λ g. numbers_from 0 g.messages) l.now }
 {
-    for i in 0..8 {
-        if !numbers_sound(&l[i].messages) {
-            return false;
-        }
-    }
-    true
+    l.iter().all(|g| numbers_sound(&g.messages))
 }
 
 // What is kept beside the orders and the series: editions, generations, and the id that limited sweeps have reached.

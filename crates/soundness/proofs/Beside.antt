@@ -30,7 +30,6 @@ use Rattle.std.proofs.Math.Bool.{not-not}
 use Rattle.book.proofs.FirstPlace.{complex-found}
 use Rattle.soundness.specs.Checked.{priced_on, on_increments, is_alone, eight, legging_in_range, has_home}
 use Rattle.sound_places.proofs.Passes.{all_past, all-stop, all_none, and_assoc}
-use Rattle.rules.proofs.Ranges.{inside, within-top}
 
 -- A pass over numbered places -----------------------------------------------------------------
 
@@ -145,11 +144,6 @@ legging-same l = go (eqb l.parent 0)
     go : (a : Bool) → (a && (eqb l.price 0 && eqb l.quantity 0)) ≡ ((a && eqb l.price 0) && eqb l.quantity 0)
     go true = refl
     go false = refl
-
-pub legging-quantity : (l : Legging) → 0 < l.parent → l.parent ≤ 4294967295 → 0 < l.price → l.price ≤ 100000 → 0 < l.quantity →
-    leb l.quantity 10000 ≡ legging_in_range l
-unfolding legging_in_range is_id is_price is_quantity
-legging-quantity l a b c d e = rw (inside 1 4294967295 l.parent a b, inside 1 100000 l.price c d) (within-top 1 10000 l.quantity e)
 
 module _ (v : Venue) (l : Legging) (s d : ℕ) (c : Complex) (e : c ≡ parent_of v l) where
   home-is : (has_leg c s d && one_to_one c && leb l.quantity c.quantity) ≡ has_home v l s d

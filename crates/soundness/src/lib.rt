@@ -55,7 +55,7 @@ fn is_alone(numbers: &Numbers, o: Regular) -> bool
     book::complex_place(numbers, o.id).is_none()
 }
 
-// No id rests in both books.
+// No id rests in both books. It has a loop of its own for the reason that on_increments tells.
 fn ids_distinct(numbers: &Numbers) -> bool
     ensures { result ≡ ids_distinct (venue_of numbers.now) }
 {
@@ -85,7 +85,7 @@ fn is_apart(numbers: &Numbers, s: u8) -> bool
     bid < offer
 }
 
-// No series is locked or crossed, counting own prices.
+// No series is locked or crossed, counting own prices. It has a loop of its own for the reason that on_increments tells.
 fn all_apart(numbers: &Numbers) -> bool
     requires { Right numbers.now }
     ensures { result ≡ all (apart (venue_of numbers.now)) eight }
@@ -112,16 +112,10 @@ fn legging_in_range(l: Legging) -> bool
     if l.parent == 0 {
         return false;
     }
-    if l.price == 0 {
+    if !arithmetic::is_price(l.price) {
         return false;
     }
-    if 100000 < l.price {
-        return false;
-    }
-    if l.quantity == 0 {
-        return false;
-    }
-    l.quantity <= 10000
+    arithmetic::is_quantity(l.quantity)
 }
 
 // A leg's series and side are these.
@@ -176,7 +170,7 @@ fn legging_sound(numbers: &Numbers, g: [[Level; 2]; 8], n: usize) -> bool
     settling::judge(numbers, g, n).is_none()
 }
 
-// Every legging place is sound.
+// Every legging place is sound. It has a loop of its own for the reason that on_increments tells.
 fn leggings_sound(numbers: &Numbers, g: [[Level; 2]; 8]) -> bool
     requires { GridReady numbers.now g }
     ensures { result ≡ leggings_sound (venue_of numbers.now) 0 (venue_of numbers.now).legging }
@@ -231,7 +225,7 @@ fn follows_editions(numbers: &Numbers, number: u32) -> bool
     true
 }
 
-// It is above that of each of a series' generations.
+// It is above that of each of a series' generations. It has a loop of its own for the reason that on_increments tells.
 fn follows_series(numbers: &Numbers, s: usize, number: u32) -> bool
     requires { s < 8 }
     ensures { result ≡ all (λ n. ltb n number) (generations_of (venue_of numbers.now) s) }
@@ -244,7 +238,7 @@ fn follows_series(numbers: &Numbers, s: usize, number: u32) -> bool
     true
 }
 
-// A message number is above that of every generation.
+// A message number is above that of every generation. It has a loop of its own for the reason that on_increments tells.
 fn follows_generations(numbers: &Numbers, number: u32) -> bool
     ensures { result ≡ all (λ g. all (λ n. ltb n number) g.messages) (venue_of numbers.now).generations }
 {

@@ -17,7 +17,7 @@ pub loop-i-init : goal.loop-i-init
 loop-i-init c = refl
 
 pub returns-then-c-eq0 : goal.returns-then-c-eq0
-unfolding complexes_from
+unfolding complexes_from all
 returns-then-c-eq0 c = let n : length c.args.l.now ≡ 32 = search rules in
     c.all_blank.ensures ∙ ap (all blank_complex) (rest-all c.args.l.now 32 c.loop-i.i n)
     ∙ arranged-free holds_complex (asked_complex c.args.last) blank_complex (λ x. x.id) no_complex

@@ -7,6 +7,7 @@ use borrow.Author.Tests.{eq-eqb, ne_eqb}
 use borrow.Author.Rules.{rules}
 use Rattle.rules.specs.Base.{all}
 use Rattle.rules.specs.Places.{blank_edition}
+use Rattle.sound_places.specs.Checked.{editions_from}
 use Rattle.sound_places.proofs.Passes.{rest-all, editions-none, editions-free, editions-low, editions-late, editions-out, editions-past}
 use Rattle.sound_places.proofs.editions_sound.Goals as goal
 
@@ -14,6 +15,7 @@ pub loop-i-init : goal.loop-i-init
 loop-i-init c = refl
 
 pub returns-then-e-eq0 : goal.returns-then-e-eq0
+unfolding all editions_from
 returns-then-e-eq0 c = let n : length c.args.l.now ≡ 32 = search rules in
     c.all_blank.ensures ∙ ap (all blank_edition) (rest-all c.args.l.now 32 c.loop-i.i n)
     ∙ editions-free c.args.l.now c.loop-i.low

@@ -6,21 +6,21 @@ use borrow.Author.Rules.{rules}
 use Rattle.sound_places.proofs.Passes.{numbers-none, numbers-fall, numbers-past}
 use Rattle.sound_places.proofs.numbers_sound.Goals as goal
 
-pub loop-i-init : goal.loop-i-init
-loop-i-init c = refl
+pub loop-n-init : goal.loop-n-init
+loop-n-init c = refl
 
 pub returns-then-not-is_unfallen : goal.returns-then-not-is_unfallen
 returns-then-not-is_unfallen c = let n : length c.args.l.now ≡ 20 = search rules in
-    numbers-fall c.args.l.now c.loop-i.low c.loop-i.i
+    numbers-fall c.args.l.now c.loop-n.low c.loop-n.n-index
     (omega arith) (sym c.is_unfallen.ensures ∙ c.if-not-is_unfallen.true)
-    ∙ c.loop-i.invariant
+    ∙ c.loop-n.invariant
 
-pub loop-i-preserved : goal.loop-i-preserved
-loop-i-preserved c = let n : length c.args.l.now ≡ 20 = search rules in
-    numbers-past c.args.l.now c.loop-i.low c.loop-i.i
+pub loop-n-preserved : goal.loop-n-preserved
+loop-n-preserved c = let n : length c.args.l.now ≡ 20 = search rules in
+    numbers-past c.args.l.now c.loop-n.low c.loop-n.n-index
     (omega arith) (sym c.is_unfallen.ensures ∙ c.if-not-is_unfallen.false)
-    ∙ c.loop-i.invariant
+    ∙ c.loop-n.invariant
 
 pub returns : goal.returns
 returns c = let n : length c.args.l.now ≡ 20 = search rules in
-    numbers-none c.args.l.now c.loop-i.low c.loop-i.i (omega arith) ∙ c.loop-i.invariant
+    numbers-none c.args.l.now c.loop-n.low c.loop-n.n-index (omega arith) ∙ c.loop-n.invariant

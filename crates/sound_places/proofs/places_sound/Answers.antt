@@ -21,13 +21,13 @@ returns-then-not-complexes_sound c = let v = c.args.v in let r = regulars_from v
     (out-of-last r (complexes_sound v) (sym c.complexes_sound.ensures ∙ c.if-not-complexes_sound.true))
 
 pub returns-then-not-series_sound : goal.returns-then-not-series_sound
-unfolding places_sound
+unfolding places_sound all
 returns-then-not-series_sound c = let v = c.args.v in
     let r = regulars_from v.last 0 v.regular in second-fails (r && complexes_sound v) (all listed_in_range v.series) (kept_sound v)
     (sym c.series_sound.ensures ∙ c.if-not-series_sound.true)
 
 pub returns : goal.returns
-unfolding places_sound complexes_sound complexes_from
+unfolding places_sound complexes_sound complexes_from all
 returns c = let v = c.args.v in
     let r = regulars_from v.last 0 v.regular in c.kept_sound.ensures ∙ last-decides (r && complexes_sound v) (all listed_in_range v.series)
     (kept_sound v) (and_in r (complexes_sound v) (sym c.regulars_sound.ensures

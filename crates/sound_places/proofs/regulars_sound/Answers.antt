@@ -16,7 +16,7 @@ pub loop-i-init : goal.loop-i-init
 loop-i-init c = refl
 
 pub returns-then-o-eq0 : goal.returns-then-o-eq0
-unfolding regulars_from
+unfolding regulars_from all
 returns-then-o-eq0 c = let n : length c.args.l.now ≡ 128 = search rules in
     c.all_blank.ensures ∙ ap (all blank_regular) (rest-all c.args.l.now 128 c.loop-i.i n)
     ∙ arranged-free holds_regular (asked_regular c.args.last) blank_regular (λ x. x.id) no_regular
