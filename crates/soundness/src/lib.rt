@@ -2,6 +2,7 @@
 #![tactic(auto)]
 
 ghost use Rattle.std.specs.Prelude.{◌≡◌, ◌&&◌, ltb, eqb, length, ◌<◌};
+ghost use Rattle.std.specs.List.{list_all};
 ghost use Rattle.rules.specs.Base.{all};
 ghost use Rattle.rules.specs.Places.{blank_legging};
 ghost use Rattle.rules.specs.Generation.{generations_of};
@@ -85,17 +86,12 @@ fn is_apart(numbers: &Numbers, s: u8) -> bool
     bid < offer
 }
 
-// No series is locked or crossed, counting own prices. It has a loop of its own for the reason that on_increments tells.
+// No series is locked or crossed, counting own prices.
 fn all_apart(numbers: &Numbers) -> bool
     requires { Right numbers.now }
-    ensures { result ≡ all (apart (venue_of numbers.now)) eight }
+    ensures { result ≡ list_all (apart (venue_of numbers.now)) eight }
 {
-    for s in 0..8 {
-        if !is_apart(numbers, s) {
-            return false;
-        }
-    }
-    true
+    (0..8).all(|s| is_apart(numbers, s))
 }
 
 // A legging place that is all zero.
