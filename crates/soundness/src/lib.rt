@@ -56,7 +56,7 @@ fn is_alone(numbers: &Numbers, o: Regular) -> bool
     book::complex_place(numbers, o.id).is_none()
 }
 
-// No id rests in both books. It has a loop of its own for the reason that on_increments tells.
+// No id rests in both books.
 fn ids_distinct(numbers: &Numbers) -> bool
     ensures { result ≡ ids_distinct (venue_of numbers.now) }
 {
@@ -166,7 +166,7 @@ fn legging_sound(numbers: &Numbers, g: [[Level; 2]; 8], n: usize) -> bool
     settling::judge(numbers, g, n).is_none()
 }
 
-// Every legging place is sound. It has a loop of its own for the reason that on_increments tells.
+// Every legging place is sound.
 fn leggings_sound(numbers: &Numbers, g: [[Level; 2]; 8]) -> bool
     requires { GridReady numbers.now g }
     ensures { result ≡ leggings_sound (venue_of numbers.now) 0 (venue_of numbers.now).legging }
@@ -221,7 +221,7 @@ fn follows_editions(numbers: &Numbers, number: u32) -> bool
     true
 }
 
-// It is above that of each of a series' generations. It has a loop of its own for the reason that on_increments tells.
+// It is above that of each of a series' generations.
 fn follows_series(numbers: &Numbers, s: usize, number: u32) -> bool
     requires { s < 8 }
     ensures { result ≡ all (λ n. ltb n number) (generations_of (venue_of numbers.now) s) }
@@ -234,7 +234,7 @@ fn follows_series(numbers: &Numbers, s: usize, number: u32) -> bool
     true
 }
 
-// A message number is above that of every generation. It has a loop of its own for the reason that on_increments tells.
+// A message number is above that of every generation. It is a loop, since the proof of the same pass by the iterator's all did not close.
 fn follows_generations(numbers: &Numbers, number: u32) -> bool
     ensures { result ≡ all (λ g. all (λ n. ltb n number) g.messages) (venue_of numbers.now).generations }
 {
