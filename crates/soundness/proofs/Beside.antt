@@ -28,7 +28,7 @@ use Rattle.levels.proofs.Scans.{upto-on, upto-end}
 use Rattle.book.specs.Picks.{complex_found}
 use Rattle.std.proofs.Math.Bool.{not-not}
 use Rattle.book.proofs.FirstPlace.{complex-found}
-use Rattle.soundness.specs.Checked.{priced_on, on_increments, is_alone, eight, legging_in_range, has_home}
+use Rattle.soundness.specs.Checked.{priced_on, on_increments, is_alone, legging_in_range, has_home}
 use Rattle.sound_places.proofs.Passes.{all_past, all-stop, all_none, and_assoc}
 
 -- A pass over numbered places -----------------------------------------------------------------
@@ -114,10 +114,6 @@ module _ (v : Venue) (s x y : ℕ) (e : x ≡ best_own v s 0) (q : y ≡ best_ow
 
     pub apart-both : (y ≡ 0 → ⊥) → ltb x y ≡ apart v s
     apart-both z = rw (ne_eqb x 0 h, ne_eqb y 0 z) at apart_of
-
-pub series-scan : (f : ℕ → Bool) → all f (upto (λ (n : ℕ). n) 0 (8 - 0)) ≡ all f eight
-unfolding upto
-series-scan f = refl
 
 -- Editions and generations --------------------------------------------------------------------
 

@@ -2,6 +2,7 @@
 #![tactic(auto)]
 
 ghost use Rattle.std.specs.Prelude.{◌≡◌, ◌&&◌, ltb, eqb, length, ◌<◌};
+ghost use Rattle.std.specs.List.{list_all};
 ghost use Rattle.rules.specs.Base.{all};
 ghost use Rattle.rules.specs.Places.{blank_legging};
 ghost use Rattle.rules.specs.Generation.{generations_of};
@@ -55,7 +56,7 @@ fn is_alone(numbers: &Numbers, o: Regular) -> bool
     book::complex_place(numbers, o.id).is_none()
 }
 
-// No id rests in both books. It has a loop of its own for the reason that on_increments tells.
+// No id rests in both books.
 fn ids_distinct(numbers: &Numbers) -> bool
     ensures { result ≡ ids_distinct (venue_of numbers.now) }
 {
@@ -85,17 +86,12 @@ fn is_apart(numbers: &Numbers, s: u8) -> bool
     bid < offer
 }
 
-// No series is locked or crossed, counting own prices. It has a loop of its own for the reason that on_increments tells.
+// No series is locked or crossed, counting own prices.
 fn all_apart(numbers: &Numbers) -> bool
     requires { Right numbers.now }
-    ensures { result ≡ all (apart (venue_of numbers.now)) eight }
+    ensures { result ≡ list_all (apart (venue_of numbers.now)) eight }
 {
-    for s in 0..8 {
-        if !is_apart(numbers, s) {
-            return false;
-        }
-    }
-    true
+    (0..8).all(|s| is_apart(numbers, s))
 }
 
 // A legging place that is all zero.
@@ -170,7 +166,7 @@ fn legging_sound(numbers: &Numbers, g: [[Level; 2]; 8], n: usize) -> bool
     settling::judge(numbers, g, n).is_none()
 }
 
-// Every legging place is sound. It has a loop of its own for the reason that on_increments tells.
+// Every legging place is sound.
 fn leggings_sound(numbers: &Numbers, g: [[Level; 2]; 8]) -> bool
     requires { GridReady numbers.now g }
     ensures { result ≡ leggings_sound (venue_of numbers.now) 0 (venue_of numbers.now).legging }
@@ -225,7 +221,7 @@ fn follows_editions(numbers: &Numbers, number: u32) -> bool
     true
 }
 
-// It is above that of each of a series' generations. It has a loop of its own for the reason that on_increments tells.
+// It is above that of each of a series' generations.
 fn follows_series(numbers: &Numbers, s: usize, number: u32) -> bool
     requires { s < 8 }
     ensures { result ≡ all (λ n. ltb n number) (generations_of (venue_of numbers.now) s) }
@@ -238,7 +234,7 @@ fn follows_series(numbers: &Numbers, s: usize, number: u32) -> bool
     true
 }
 
-// A message number is above that of every generation. It has a loop of its own for the reason that on_increments tells.
+// A message number is above that of every generation. It is a loop, since the proof of the same pass by the iterator's all did not close.
 fn follows_generations(numbers: &Numbers, number: u32) -> bool
     ensures { result ≡ all (λ g. all (λ n. ltb n number) g.messages) (venue_of numbers.now).generations }
 {

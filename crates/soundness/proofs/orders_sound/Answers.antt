@@ -29,6 +29,7 @@ pub all_apart-requires : goal.all_apart-requires
 all_apart-requires c = c.requires
 
 pub returns-then-not-all_apart : goal.returns-then-not-all_apart
+unfolding all
 returns-then-not-all_apart c = let b = c.args.numbers.now in let v = venue_of b in
     second-fails (on_increments v && ids_distinct v) (all (apart v) eight) (leggings_sound v 0 v.legging)
     (sym c.all_apart.ensures ∙ c.if-not-all_apart.true) ∙ orders-are b
@@ -41,6 +42,7 @@ pub leggings_sound-requires : goal.leggings_sound-requires
 leggings_sound-requires c = record { grid = c.levels-g.ensures; figures = c.requires.marked.figures }
 
 pub returns : goal.returns
+unfolding all
 returns c = let b = c.args.numbers.now in let v = venue_of b in
     c.leggings_sound.ensures ∙ last-decides (on_increments v && ids_distinct v) (all (apart v) eight) (leggings_sound v 0 v.legging)
     (and_in (on_increments v) (ids_distinct v)
