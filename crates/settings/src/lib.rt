@@ -34,7 +34,7 @@ fn value_at(editions: &[Edition; 32], number: u32, f: u8) -> u8
     x
 }
 
-// The eight increments. Each is written out, since a closure for `array::from_fn` would have to take the index, a `usize`, back to a figure.
+// The eight increments. Each is written out: a `map` over the numbers 0 to 7 would keep a table of them in the archives.
 fn increments_at(editions: &[Edition; 32], number: u32) -> [u8; 8]
     ensures { result ≡ map (value_at editions.now number) (0 ∷ 1 ∷ 2 ∷ 3 ∷ 4 ∷ 5 ∷ 6 ∷ 7 ∷ []) }
 {
