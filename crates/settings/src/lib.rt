@@ -34,11 +34,20 @@ fn value_at(editions: &[Edition; 32], number: u32, f: u8) -> u8
     x
 }
 
-// The eight increments.
+// The eight increments. Each is written out: a `map` over the numbers 0 to 7 would keep a table of them in the archives.
 fn increments_at(editions: &[Edition; 32], number: u32) -> [u8; 8]
     ensures { result ≡ map (value_at editions.now number) (0 ∷ 1 ∷ 2 ∷ 3 ∷ 4 ∷ 5 ∷ 6 ∷ 7 ∷ []) }
 {
-    [0, 1, 2, 3, 4, 5, 6, 7].map(|f| value_at(editions, number, f))
+    [
+        value_at(editions, number, 0),
+        value_at(editions, number, 1),
+        value_at(editions, number, 2),
+        value_at(editions, number, 3),
+        value_at(editions, number, 4),
+        value_at(editions, number, 5),
+        value_at(editions, number, 6),
+        value_at(editions, number, 7),
+    ]
 }
 
 // The settings at a message number, whatever it is. An unsound venue's are 9 and zeros.
