@@ -10,7 +10,7 @@ ghost use Rattle.rules.specs.Prices.{shown_size, displayed_price, weighed, near_
 ghost use Rattle.rules.specs.Standing.{verdict_number};
 ghost use Rattle.rules.specs.Refusals.{decoded_number, refusal_number};
 
-use rules::{Cause, Complex, Listed, Message, Refusal, Regular, Venue};
+use rules::{Cause, Complex, Listed, Message, Refusal, Regular, Venue, Verdict};
 
 // The venue with no orders, all series open and no away prices.
 pub fn fresh() -> Venue
@@ -206,18 +206,35 @@ pub fn length_of(kind: u16) -> u16
     0
 }
 
-// A cause's number, by its place among the causes. Of a match, or of discriminants with a gap, a compiler makes a table (host/legging/tests/read_only.rs).
+// A cause's place among the causes, from 1 on: its number, but that the last one's is 10.
+fn cause_order(cause: Cause) -> u8
+    ensures { (if eqb result 9 then 10 else result) ≡ cause_number cause }
+{
+    match cause {
+        Cause::Worse => 1,
+        Cause::Unpaired => 2,
+        Cause::Executed => 3,
+        Cause::Withdrawn => 4,
+        Cause::OutOfBand => 5,
+        Cause::NotOpen => 6,
+        Cause::Replaced => 7,
+        Cause::Touched => 8,
+        Cause::NoUnit => 9,
+    }
+}
+
+// A cause's number, in two steps: of numbers that do not rise by one a compiler makes a table (host/legging/tests/read_only.rs).
 pub fn cause_number(cause: Cause) -> u8
     ensures { result ≡ cause_number cause }
 {
-    let place = cause as u8;
-    if place < 8 {
-        return place + 1;
+    let n = cause_order(cause);
+    if n == 9 {
+        return 10;
     }
-    10
+    n
 }
 
-// A refusal's number, by its place among the refusals, as cause_number finds a cause's: after 8 comes 11.
+// A refusal's number, by its place among the refusals, for the same reason: after 8 comes 11.
 pub fn refusal_number(refusal: Refusal) -> u8
     ensures { result ≡ refusal_number refusal }
 {
@@ -228,13 +245,13 @@ pub fn refusal_number(refusal: Refusal) -> u8
     place + 3
 }
 
-// The number of what a test says: 0 where the order stands, else its cause's.
-pub fn verdict_number(verdict: Option<Cause>) -> u8
+// A verdict's number: 0, or its cause's.
+pub fn verdict_number(verdict: Verdict) -> u8
     ensures { result ≡ verdict_number verdict }
 {
     match verdict {
-        None => 0,
-        Some(cause) => cause_number(cause),
+        Verdict::Stands => 0,
+        Verdict::Fails(cause) => cause_number(cause),
     }
 }
 

@@ -21,7 +21,7 @@ use Rattle.rules.specs.Records.{ForAll, Report, FourBytes, answer}
 use Rattle.rules.specs.Effects.{Effect}
 use Rattle.rules.specs.Sound.{follows}
 use Rattle.rules.specs.Sums.{cancelled_of, contracts, crossed_for, open_complex, open_regular, paired, total}
-use Rattle.demands.specs.Demand.{Accepted, Seen}
+use Rattle.demands.specs.Demand.{Accepted, Seen, start}
 use Rattle.rules.proofs.Adding.{open_none, total-append}
 use Rattle.rules.proofs.Filling.{cx, reg}
 use Rattle.rules.proofs.Generating.{AllStand}

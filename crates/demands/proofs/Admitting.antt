@@ -1,5 +1,5 @@
 -- An accepted order is given its place: the invariant holds with it, its id is its own, all of it is open, and the other ids are as they were.
-use Rattle.std.specs.Prelude.{if◌then◌else◌, None}
+use Rattle.std.specs.Prelude.{if◌then◌else◌}
 use mathlib.Core.Path.{◌∙◌, ◌≡◌, ap, refl, subst, sym}
 use mathlib.Core.Bool.{false, true}
 use mathlib.Core.Logic.{◌≢◌}
@@ -13,9 +13,11 @@ use Rattle.rules.specs.declared.Complex.{Complex}
 use Rattle.rules.specs.declared.Legging.{Legging}
 use Rattle.rules.specs.declared.Regular.{Regular}
 use Rattle.rules.specs.declared.Venue.{Venue}
+use Rattle.rules.specs.declared.Verdict.TheVariants.{Stands}
 use Rattle.rules.specs.Base.{held}
 use Rattle.rules.specs.Words.{no_complex, no_regular, opposite, place_of, with_complex, with_last, with_regular}
 use Rattle.rules.specs.Standing.{other_leg, other_size, pairs, parent_of, verdict, verdict_of}
+use Rattle.rules.specs.Sound.{apart}
 use Rattle.rules.specs.Sums.{open_complex, open_regular}
 use Rattle.rules.proofs.Adding.{open_none, open-put}
 use Rattle.rules.proofs.Filling.{SameLegs, cx, lg, reg, same-legs}
@@ -69,7 +71,7 @@ unfolding AllStand verdict pairs
 stands-pays v s d f st d2 h =
     let n = place_of s d in
     let c = parent_of v (lg v n) in
-    let a : verdict_of v c (n / 2) (n % 2) (lg v n) ≡ None = rw h at (st n) in
+    let a : verdict_of v c (n / 2) (n % 2) (lg v n) ≡ Stands = rw h at (st n) in
     let q = rw (place-series s d d2) at (passed a).pair in
     let apart : n / 2 ≢ (other_leg c (n / 2)).series = rw (parent-found v f n h) (other-apart v f n h) in
     let size : leb (lg v n).quantity (other_size v c s) ≡ true = search (and_l, and_r, q) in

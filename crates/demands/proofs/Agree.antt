@@ -10,7 +10,7 @@ use native.Mathlib.Nat.{add-zero, suc-add, zero-add}
 use native.Mathlib.Omega.{arith}
 use lib.Dec.{eqb, eqb-suc-zero}
 use lib.ListN.{drop, length, length-append, length-drop, length-take, take}
-use lib.Seq.{drop-append-le, take_all, take-append_seam}
+use lib.Seq.{drop-append-le, length-take-le, take_all, take-append_seam}
 use borrow.Author.Tests.{eqb-false, eqb-true, lt-ltb, ne_eqb}
 use Rattle.rules.specs.declared.Venue.{Venue}
 use Rattle.rules.specs.Bytes.{length_field}

@@ -1,5 +1,4 @@
 -- `Carries v e`: the effect e upon v moves the ledger and keeps the invariant. Here for what a complex order does: cross, touch, leg in.
-use Rattle.std.specs.Prelude.{Option}
 use mathlib.Core.Path.{◌∙◌, ◌≡◌, ap, refl, subst, sym}
 use mathlib.Core.Bool.{◌&&◌, ◌||◌, false≢true, true}
 use mathlib.Core.Logic.{◌≢◌}
@@ -13,9 +12,10 @@ use Rattle.rules.specs.declared.Cause.TheVariants.{Executed}
 use Rattle.rules.specs.declared.Complex.{Complex}
 use Rattle.rules.specs.declared.Legging.{Legging}
 use Rattle.rules.specs.declared.Venue.{Venue}
-use Rattle.rules.specs.declared.Cause.{Cause}
+use Rattle.rules.specs.declared.Verdict.{Verdict}
 use Rattle.rules.specs.Base.{held}
 use Rattle.rules.specs.Words.{complex_at, no_complex, opposite, with_complex, with_legging, with_regular}
+use Rattle.rules.specs.Bytes.{i32}
 use Rattle.rules.specs.Effects.{Effect, Turn, ◌⟫◌, ended, nothing, repeat, report, turned}
 use Rattle.rules.specs.Prices.{best_regular, best_size}
 use Rattle.rules.specs.Removal.{remove, remove_of}
@@ -48,7 +48,7 @@ pub carries-nothing : (v : Venue) → Fine v → Carries v (nothing v)
 unfolding nothing
 carries-nothing v f = record { moves = moves-nothing v; homes = f.homes }
 
-pub carries-remove : (g : ℕ → Legging → Option Cause) (v : Venue) → Fine v → Carries v (remove g v)
+pub carries-remove : (g : ℕ → Legging → Verdict) (v : Venue) → Fine v → Carries v (remove g v)
 carries-remove g v f = record { moves = moves-remove g v; homes = homes-remove g v f.homes }
 
 pub settle-carries : (v : Venue) → Fine v → Carries v (settle v)

@@ -1,5 +1,5 @@
 -- Generation and sweeps carry the invariant and leave every legging order standing. `Stood v e`: the effect e upon v does both.
-use Rattle.std.specs.Prelude.{if◌then◌else◌, Option}
+use Rattle.std.specs.Prelude.{if◌then◌else◌}
 use mathlib.Core.Path.{◌∙◌, ◌≡◌, ap, refl, subst, sym}
 use mathlib.Core.Bool.{Bool, ◌&&◌, false, true}
 use mathlib.Core.Logic.{◌≢◌, inl, inr}
@@ -14,9 +14,10 @@ use Rattle.rules.specs.declared.Cause.TheVariants.{Replaced}
 use Rattle.rules.specs.declared.Complex.{Complex}
 use Rattle.rules.specs.declared.Legging.{Legging}
 use Rattle.rules.specs.declared.Venue.{Venue}
-use Rattle.rules.specs.declared.Cause.{Cause}
+use Rattle.rules.specs.declared.Verdict.{Verdict}
 use Rattle.rules.specs.Base.{held}
 use Rattle.rules.specs.Words.{complex_at, no_complex, no_legging, one_to_one, opposite, place_of, with_generations, with_legging, with_reached}
+use Rattle.rules.specs.Bytes.{i32}
 use Rattle.rules.specs.Records.{generated, looked}
 use Rattle.rules.specs.Effects.{Effect, ◌⟫◌, nothing, report}
 use Rattle.rules.specs.Removal.{fail_if, remove}
@@ -71,7 +72,7 @@ homes-counted : (number s : ℕ) (v : Venue) → Homes v → Homes (counted numb
 unfolding counted with_generations
 homes-counted number s v h = homes_same {v = v} refl refl h
 
-remove-complex : (f : ℕ → Legging → Option Cause) (v : Venue) → (remove f v).venue.complex ≡ v.complex
+remove-complex : (f : ℕ → Legging → Verdict) (v : Venue) → (remove f v).venue.complex ≡ v.complex
 unfolding remove with_legging
 remove-complex f v = refl
 

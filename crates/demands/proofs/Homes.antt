@@ -3,7 +3,6 @@
 -- `Tidy`: no gap, and free places are all zero; `Showing`: each order shows what it should; these hold between messages.
 -- `Uncrossed`: no series is locked or crossed. `Edited`: editions rise in both numbers. `Priced`: resting prices are on the increments in force.
 -- `Busy`: the generations counted.
-use Rattle.std.specs.Prelude.{Option}
 use mathlib.Core.Path.{◌∙◌, ◌≡◌, ap, refl, sym}
 use mathlib.Core.Bool.{Bool, false, false≢true, true, true≢false}
 use mathlib.Core.Logic.{◌≢◌, ◌⊎◌, inl, inr}
@@ -21,6 +20,7 @@ use Rattle.rules.specs.declared.Cause.TheVariants.{Executed}
 use Rattle.rules.specs.declared.Complex.{Complex}
 use Rattle.rules.specs.declared.Legging.{Legging}
 use Rattle.rules.specs.declared.Venue.{Venue}
+use Rattle.rules.specs.declared.Verdict.{Verdict}
 use Rattle.rules.specs.Base.{held, place_where}
 use Rattle.rules.specs.Words.{buy, complex_at, is_complex_of, no_complex, no_legging, one_to_one, sell, with_complex, with_legging}
 use Rattle.rules.specs.Records.{Report}
@@ -141,7 +141,7 @@ homes-thin {v} {w} e len k h = record { len = len ∙ h.len; home = λ n. go n (
     go n (inl p) t = rw p (home_same e (h.home n (rw p at t)))
     go n (inr p) t = absurd (false≢true (rw p at t))
 
-pub homes-remove : (f : ℕ → Legging → Option Cause) (v : Venue) → Homes v → Homes (remove f v).venue
+pub homes-remove : (f : ℕ → Legging → Verdict) (v : Venue) → Homes v → Homes (remove f v).venue
 unfolding remove with_legging
 homes-remove f v h = homes-thin refl (length-stayers f 0 v.legging) (stayers-kept f 0 v.legging) h
 

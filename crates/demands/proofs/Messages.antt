@@ -30,13 +30,13 @@ use Rattle.rules.specs.Sound.{follows}
 use Rattle.rules.specs.Sums.{cancelled_of, contracts, crossed_for, paired, total}
 use Rattle.rules.proofs.AllSettled.{settle-all, settled}
 use Rattle.rules.proofs.Answering.{told}
-use Rattle.rules.proofs.CallsLaws.{step_by}
+use Rattle.rules.proofs.CallsLaws.{left, step_by}
 use Rattle.rules.proofs.Cases.{if-by}
 use Rattle.rules.proofs.Dating.{some_number, step-priced, step-rises, steps-settled, steps-work}
 use Rattle.rules.proofs.Editions.{Stepped, dated-steps, steps-same}
 use Rattle.rules.proofs.Filling.{cx, held_fits, held-fits_c, reg}
 use Rattle.rules.proofs.Finding.{where-passes}
-use Rattle.rules.proofs.Generating.{AllStand}
+use Rattle.rules.proofs.Generating.{AllStand, new}
 use Rattle.rules.proofs.Ledger.{Moved, moved-silent, moved-trans, silent-nil}
 use Rattle.rules.proofs.Moving.{moves-cancel_complex, moves-cancel_regular}
 use Rattle.rules.proofs.RefusalsLaws.{Passed, accepted, well_formed}

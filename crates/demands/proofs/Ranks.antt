@@ -1,5 +1,5 @@
 -- Which orders go does not turn on the rank of causes: of the four tests, and then place by place.
-use Rattle.std.specs.Prelude.{if◌then◌else◌, None, Option, Some}
+use Rattle.std.specs.Prelude.{if◌then◌else◌}
 use mathlib.Core.Path.{◌≡◌, ap, refl}
 use mathlib.Core.Bool.{Bool, false, not, true}
 use mathlib.Core.List.{List, [], ◌++◌, ◌∷◌, map}
@@ -8,7 +8,8 @@ use Rattle.rules.specs.declared.Cause.TheVariants.{NotOpen, OutOfBand, Unpaired,
 use Rattle.rules.specs.declared.Complex.{Complex}
 use Rattle.rules.specs.declared.Legging.{Legging}
 use Rattle.rules.specs.declared.Venue.{Venue}
-use Rattle.rules.specs.declared.Cause.{Cause}
+use Rattle.rules.specs.declared.Verdict.{Verdict}
+use Rattle.rules.specs.declared.Verdict.TheVariants.{Fails, Stands}
 use Rattle.rules.specs.Base.{held}
 use Rattle.rules.specs.Words.{with_legging}
 use Rattle.rules.specs.Records.{Report, removed}
@@ -22,14 +23,14 @@ use Rattle.demands.specs.Ranks.{Unaffected, former_settle, former_verdict, forme
 
 module _ (v : Venue) where
   -- a former verdict on an order of the complex order with an id, as it is now
-  abbrev revised : (id : ℕ) → Option Cause → Option Cause
-  revised id None = None
-  revised id (Some c) = Some (recaused v id c)
+  abbrev revised : (id : ℕ) → Verdict → Verdict
+  revised id Stands = Stands
+  revised id (Fails c) = Fails (recaused v id c)
 
   -- by the four tests: price shown, band, pairing, open
   ranks : (id : ℕ) (a b p o : Bool) → left_band v id ≡ not b →
       ladder a b p o
-      ≡ revised id (if not a then Some Worse else if not p then Some Unpaired else if not b then Some OutOfBand else if not o then Some NotOpen else None)
+      ≡ revised id (if not a then Fails Worse else if not p then Fails Unpaired else if not b then Fails OutOfBand else if not o then Fails NotOpen else Stands)
   unfolding recaused
   ranks id false b p o e = refl
   ranks id true true true true e = refl
@@ -43,26 +44,26 @@ module _ (v : Venue) where
   verdict-revised n l = go (held l.quantity) (parent_of v l) refl
     where
       go : (h : Bool) (c : Complex) → left_band v l.parent ≡ not (in_band v c c.limit) →
-          (if h then verdict_of v c (n / 2) (n % 2) l else None)
-          ≡ revised l.parent (if h then former_verdict_of v c (n / 2) (n % 2) l else None)
+          (if h then verdict_of v c (n / 2) (n % 2) l else Stands)
+          ≡ revised l.parent (if h then former_verdict_of v c (n / 2) (n % 2) l else Stands)
       go true c e =
           ranks l.parent (displayed_no_worse v (n / 2) (n % 2) l.price) (in_band v c c.limit) (pairs v c (n / 2) (n % 2) l.price l.quantity) (both_open v c) e
       go false c e = refl
 
-  revised-stands : (id : ℕ) (x : Option Cause) → stands (revised id x) ≡ stands x
+  revised-stands : (id : ℕ) (x : Verdict) → stands (revised id x) ≡ stands x
   unfolding stands
-  revised-stands id None = refl
-  revised-stands id (Some c) = refl
+  revised-stands id Stands = refl
+  revised-stands id (Fails c) = refl
 
-  revised-stay : (id : ℕ) (x : Option Cause) (l : Legging) → stay (revised id x) l ≡ stay x l
+  revised-stay : (id : ℕ) (x : Verdict) (l : Legging) → stay (revised id x) l ≡ stay x l
   unfolding stay
-  revised-stay id None l = refl
-  revised-stay id (Some c) l = refl
+  revised-stay id Stands l = refl
+  revised-stay id (Fails c) l = refl
 
-  revised-goes : (n : ℕ) (x : Option Cause) (l : Legging) → goes n (revised l.parent x) l ≡ map (retold v) (goes n x l)
+  revised-goes : (n : ℕ) (x : Verdict) (l : Legging) → goes n (revised l.parent x) l ≡ map (retold v) (goes n x l)
   unfolding goes retold
-  revised-goes n None l = refl
-  revised-goes n (Some c) l = go (held l.quantity)
+  revised-goes n Stands l = refl
+  revised-goes n (Fails c) l = go (held l.quantity)
     where
       go : (h : Bool) →
           (if h then removed l.parent (n / 2) (n % 2) (recaused v l.parent c) ∷ [] else [])

@@ -1,6 +1,6 @@
 -- "A complex order takes shown size only": what complex orders take from the orders of an id, and what these show after it, is no more than they showed
 -- before. So for every effect up to settling, upon any venue; from there on nothing is traded.
-use Rattle.std.specs.Prelude.{if◌then◌else◌, Option}
+use Rattle.std.specs.Prelude.{if◌then◌else◌}
 use mathlib.Core.Path.{◌∙◌, ◌≡◌, ap, refl, subst}
 use mathlib.Core.Bool.{Bool, ◌&&◌, false, not, true}
 use mathlib.Core.Logic.{◌≢◌}
@@ -20,6 +20,7 @@ use Rattle.rules.specs.declared.Message.{Message}
 use Rattle.rules.specs.declared.Message.TheVariants.{Away, Cancel, Increment, LimitedSweep, Order, Percent, Status, Sweep, TwoLeg}
 use Rattle.rules.specs.declared.Regular.{Regular}
 use Rattle.rules.specs.declared.Venue.{Venue}
+use Rattle.rules.specs.declared.Verdict.{Verdict}
 use Rattle.rules.specs.Base.{held}
 use Rattle.rules.specs.Words.{complex_at, no_regular, regular_at, with_complex, with_last, with_legging, with_reached, with_regular}
 use Rattle.rules.specs.Messages.{message_of}
@@ -126,7 +127,7 @@ module _ (x y : ℕ) where
   own-trade s d p q z m i k v e = let a = trade-own s d p q z m e in let b = shows-fill i k v in omega arith
 
   -- Removals and pairs
-  removes : (f : ℕ → Legging → Option Cause) (v : Venue) → Takes v (remove f v)
+  removes : (f : ℕ → Legging → Verdict) (v : Venue) → Takes v (remove f v)
   unfolding remove with_legging taken_from
   removes f v = silent v (remove f v) refl (leavers-silent (taken_from x y) (λ _ _ _ _. refl) f 0 v.legging)
 
@@ -246,7 +247,7 @@ module _ (x y : ℕ) where
   unfolding ◌⟫◌
   none_then e f a b = rw (total-append (taken_from x y) e.reports (f e.venue).reports) (omega arith)
 
-  none-remove : (f : ℕ → Legging → Option Cause) (v : Venue) → None (remove f v)
+  none-remove : (f : ℕ → Legging → Verdict) (v : Venue) → None (remove f v)
   unfolding remove taken_from
   none-remove f v = leavers-silent (taken_from x y) (λ _ _ _ _. refl) f 0 v.legging
 

@@ -1,5 +1,5 @@
 -- Soundness as tests, and place by place: each gives the other.
-use Rattle.std.specs.Prelude.{if◌then◌else◌, None}
+use Rattle.std.specs.Prelude.{if◌then◌else◌}
 use mathlib.Core.Path.{◌∙◌, ◌≡◌, ap, refl, subst, sym}
 use mathlib.Core.Bool.{Bool, ◌&&◌, ◌||◌, false, false≢true, not, true, true≢false}
 use mathlib.Core.List.{List, [], ◌∷◌}
@@ -14,6 +14,7 @@ use Rattle.rules.specs.declared.Complex.{Complex}
 use Rattle.rules.specs.declared.Legging.{Legging}
 use Rattle.rules.specs.declared.Regular.{Regular}
 use Rattle.rules.specs.declared.Venue.{Venue}
+use Rattle.rules.specs.declared.Verdict.TheVariants.{Stands}
 use Rattle.rules.specs.Base.{all, held}
 use Rattle.rules.specs.Words.{is_away, is_id, is_price, is_quantity, is_status, no_complex, no_edition, no_legging, no_regular, not_listed, one_to_one, within}
 use Rattle.rules.specs.Standing.{find_complex, has_leg, parent_of, stands, verdict}
@@ -261,7 +262,7 @@ module _ (v : Venue) (sh : Shaped v) (t : Asked v) where
   unfolding AllStand
   stand-out n = go (held (lg v n).quantity) refl
     where
-      go : (b : Bool) → held (lg v n).quantity ≡ b → verdict v n (lg v n) ≡ None
+      go : (b : Bool) → held (lg v n).quantity ≡ b → verdict v n (lg v n) ≡ Stands
       go true h = is-stands _ (legging-out v n (lg v n) (L n) h).passes
       go false h = free-stands v n (lg v n) h
 

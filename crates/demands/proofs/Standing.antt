@@ -24,6 +24,7 @@ use Rattle.rules.specs.Removal.{remove, remove_of}
 use Rattle.rules.specs.Standing.{has_leg, leg_net, other_clear, other_leg, other_size, pairs, parent_of, displayed_no_worse, verdict}
 use Rattle.rules.specs.Trading.{fill_regular, put_regular, trade_at_price}
 use Rattle.rules.specs.Order.{hit}
+use Rattle.rules.specs.Calls.{one}
 use Rattle.demands.specs.Demand.{FromResting, Hit, Standing, other_trades}
 use Rattle.rules.proofs.Again.{Shown}
 use Rattle.rules.proofs.Better.{best-best, better-irrefl, better-past, is_false}

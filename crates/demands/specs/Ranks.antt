@@ -1,10 +1,12 @@
 -- Request (a), "Which orders go is unaffected": the rank of causes that it brings, beside the rank of document 01.
-use Rattle.std.specs.Prelude.{◌≡◌, Bool, not, ◌&&◌, map, ℕ, ◌/◌, ◌%◌, eqb, if◌then◌else◌, None, Option, Some}
+use Rattle.std.specs.Prelude.{◌≡◌, Bool, not, ◌&&◌, map, ℕ, ◌/◌, ◌%◌, eqb, if◌then◌else◌}
 use Rattle.rules.specs.declared.Cause.{Cause}
 use Rattle.rules.specs.declared.Cause.TheVariants.{NotOpen, OutOfBand, Unpaired, Worse}
 use Rattle.rules.specs.declared.Complex.{Complex}
 use Rattle.rules.specs.declared.Legging.{Legging}
 use Rattle.rules.specs.declared.Venue.{Venue}
+use Rattle.rules.specs.declared.Verdict.{Verdict}
+use Rattle.rules.specs.declared.Verdict.TheVariants.{Fails, Stands}
 use Rattle.rules.specs.Base.{held}
 use Rattle.rules.specs.Records.{Report, cause_number, answer, cancelled, crossed, generated, looked, pair, removed, trade}
 use Rattle.rules.specs.Effects.{Effect}
@@ -14,19 +16,18 @@ use Rattle.rules.specs.Standing.{both_open, find_complex, pairs, parent_of, sett
 
 -- The former rank -----------------------------------------------------------------------------
 
--- the standing test by 01's rank, "with the lowest cause that applies": 1, 2, 5, 6. Some c: the order fails for the cause c. None: it
--- stands.
-unfoldable pub former_verdict_of : Venue → Complex → (series side : ℕ) → Legging → Option Cause
+-- the standing test by 01's rank, "with the lowest cause that applies": 1, 2, 5, 6
+unfoldable pub former_verdict_of : Venue → Complex → (series side : ℕ) → Legging → Verdict
 former_verdict_of v c s d l =
-    if not (displayed_no_worse v s d l.price) then Some Worse
-    else if not (pairs v c s d l.price l.quantity) then Some Unpaired
-    else if not (in_band v c c.limit) then Some OutOfBand
-    else if not (both_open v c) then Some NotOpen
-    else None
+    if not (displayed_no_worse v s d l.price) then Fails Worse
+    else if not (pairs v c s d l.price l.quantity) then Fails Unpaired
+    else if not (in_band v c c.limit) then Fails OutOfBand
+    else if not (both_open v c) then Fails NotOpen
+    else Stands
 
--- the same of what stands at place n; a free place stands
-unfoldable pub former_verdict : Venue → (place : ℕ) → Legging → Option Cause
-former_verdict v n l = if held l.quantity then former_verdict_of v (parent_of v l) (n / 2) (n % 2) l else None
+-- of what stands at place n
+unfoldable pub former_verdict : Venue → (place : ℕ) → Legging → Verdict
+former_verdict v n l = if held l.quantity then former_verdict_of v (parent_of v l) (n / 2) (n % 2) l else Stands
 
 -- settling by it, each order having shown again (request (e))
 unfoldable pub former_settle : Venue → Effect

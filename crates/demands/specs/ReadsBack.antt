@@ -1,6 +1,7 @@
 -- The sheet reads back: a report memory gives the records written, and all that a message writes upon a sound venue can be read so.
 use Rattle.std.specs.Prelude.{◌≡◌, List, ◌<◌, ◌≤◌, ℕ, length}
 use Rattle.rules.specs.declared.Venue.{Venue}
+use Rattle.rules.specs.Bytes.{bytes}
 use Rattle.rules.specs.Records.{ForAll, Fits, Report, encode_all, records, sheet}
 use Rattle.rules.specs.Step.{step}
 use Rattle.rules.specs.Calls.{one, run, run_upon}

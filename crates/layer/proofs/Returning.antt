@@ -7,7 +7,7 @@ use Prim.Native.Nat.{ℕ, ◌-◌, ◌≤◌}
 use native.Mathlib.Omega.{arith}
 use lib.ListN.{drop, replicate}
 use Rattle.rules.specs.Records.{encode_all, sheet}
-use Rattle.layer.specs.Layer.{Layer, lane_at, head, head_call, idle, next, serve}
+use Rattle.layer.specs.Layer.{Layer, lane_at, head, head_call, idle, next, serve, turn}
 use Rattle.layer.specs.Promises.{Returns, ServedAt}
 use Rattle.layer.proofs.Ways.{turn_by}
 use Rattle.layer.proofs.Lanes.{next-some}

@@ -1,5 +1,5 @@
 -- Laws of removal, for the loops that do it place by place.
-use Rattle.std.specs.Prelude.{if◌then◌else◌, None, Option, Some}
+use Rattle.std.specs.Prelude.{if◌then◌else◌}
 use mathlib.Core.Path.{◌≡◌, refl, sym, ap, subst, ◌∙◌}
 use mathlib.Core.Bool.{Bool, true, false, not, ◌||◌}
 use mathlib.Core.List.{List, [], ◌∷◌, ◌++◌, append_assoc, append-nil}
@@ -15,6 +15,8 @@ use Rattle.rules.specs.declared.Legging.{Legging}
 use Rattle.rules.specs.declared.Venue.{Venue}
 use Rattle.rules.specs.declared.Cause.{Cause}
 use Rattle.rules.specs.declared.Cause.TheVariants.{Worse, Unpaired, Executed, Withdrawn, OutOfBand, NotOpen, Replaced, Touched, NoUnit}
+use Rattle.rules.specs.declared.Verdict.{Verdict}
+use Rattle.rules.specs.declared.Verdict.TheVariants.{Stands, Fails}
 use Rattle.rules.specs.Words.{no_legging, with_legging}
 use Rattle.rules.specs.Records.{removed}
 use Rattle.rules.specs.Effects.{Effect, nothing, report, ◌⟫◌}
@@ -34,25 +36,25 @@ use Rattle.places.proofs.Parts.{legging-at, leggings-length}
 
 -- a verdict that leaves a place as it is
 module _ (n : ℕ) (v : Venue) (l : Legging) (e : get_or v.legging n no_legging ≡ l) where
-  pub remove-place-free : (c : Cause) → l.quantity ≡ 0 → nothing v ≡ remove_place n (Some c) v
+  pub remove-place-free : (c : Cause) → l.quantity ≡ 0 → nothing v ≡ remove_place n (Fails c) v
   unfolding remove_place nothing placed with_legging stay goes
   remove-place-free c h = simp (e, eq-eqb _ _ h)
       (ap (λ (ls : List Legging). record { venue = with_legging v ls; reports = [] })
       (sym (ap (λ (x : Legging). set v.legging n x) (sym e) ∙ set-get_or v.legging n no_legging)))
 
-  pub remove-place-held : (c : Cause) → (l.quantity ≡ 0 → ⊥) → report (removed l.parent (n / 2) (n % 2) c) (placed n no_legging v) ≡ remove_place n (Some c) v
+  pub remove-place-held : (c : Cause) → (l.quantity ≡ 0 → ⊥) → report (removed l.parent (n / 2) (n % 2) c) (placed n no_legging v) ≡ remove_place n (Fails c) v
   unfolding remove_place report stay goes
   remove-place-held c h = simp (e, ne_eqb _ _ h)
 
 -- The places from n on ------------------------------------------------------------------------
 
-pub remove_from : (ℕ → Legging → Option Cause) → ℕ → Venue → Effect
+pub remove_from : (ℕ → Legging → Verdict) → ℕ → Venue → Effect
 remove_from f n v = record {
   venue = with_legging v (take n v.legging ++ stayers f n (drop n v.legging));
   reports = leavers f n (drop n v.legging);
 }
 
-module _ (f : ℕ → Legging → Option Cause) (v : Venue) where
+module _ (f : ℕ → Legging → Verdict) (v : Venue) where
   pub remove-start : (w : Seen) → w does remove_from f 0 v ≡ w does remove f v
   unfolding remove_from remove
   remove-start w = refl
@@ -65,7 +67,7 @@ module _ (f : ℕ → Legging → Option Cause) (v : Venue) where
       rw (a, b, append-nil)
 
   -- nor is there anything to do where each of them stands
-  all-stand : (n : ℕ) (ls : List Legging) → ((k : ℕ) (l : Legging) → n ≤ k → f k l ≡ None) → (stayers f n ls ≡ ls) × (leavers f n ls ≡ [])
+  all-stand : (n : ℕ) (ls : List Legging) → ((k : ℕ) (l : Legging) → n ≤ k → f k l ≡ Stands) → (stayers f n ls ≡ ls) × (leavers f n ls ≡ [])
   unfolding stayers leavers stay goes
   all-stand n [] h = (refl, refl)
   all-stand n (l ∷ ls) h =
@@ -73,7 +75,7 @@ module _ (f : ℕ → Legging → Option Cause) (v : Venue) where
       let r = all-stand (suc n) ls (λ k x q. h k x (omega arith)) in
       (rw (e, r.0), rw (e, r.1))
 
-  pub remove-over : (n : ℕ) → ((k : ℕ) (l : Legging) → n ≤ k → f k l ≡ None) → nothing v ≡ remove_from f n v
+  pub remove-over : (n : ℕ) → ((k : ℕ) (l : Legging) → n ≤ k → f k l ≡ Stands) → nothing v ≡ remove_from f n v
   unfolding remove_from nothing with_legging
   remove-over n h =
       let r = all-stand n (drop n v.legging) h in
@@ -92,46 +94,46 @@ module _ (f : ℕ → Legging → Option Cause) (v : Venue) where
         rw (add-one, d, e, t, u, append_assoc)
 
     -- a turn of the loop: the place is cleared by its verdict
-    pub remove-turn : (y : Option Cause) (w : Venue) (l m : List ℕ) (at j : ℕ) → f n x ≡ y → stage w l at ≡ seen m j does remove_place n y v →
+    pub remove-turn : (y : Verdict) (w : Venue) (l m : List ℕ) (at j : ℕ) → f n x ≡ y → stage w l at ≡ seen m j does remove_place n y v →
         seen l at does remove_from f (n + 1) w ≡ seen m j does remove_from f n v
     remove-turn y w l m at j q p =
         sym (onward (seen m j) (remove_place n y v) (remove_from f (n + 1)) w l at p)
-        ∙ ap (λ (z : Option Cause). seen m j does (remove_place n z v ⟫ remove_from f (n + 1))) (sym q)
+        ∙ ap (λ (z : Verdict). seen m j does (remove_place n z v ⟫ remove_from f (n + 1))) (sym q)
         ∙ ap (λ (z : Effect). seen m j does z) (sym one_place)
 
     -- or it stands
-    stood : remove_place n None v ≡ nothing v
+    stood : remove_place n Stands v ≡ nothing v
     unfolding remove_place nothing placed with_legging stay goes
     stood = ap (λ (ls : List Legging). record { venue = with_legging v ls; reports = [] }) (set-get_or v.legging n no_legging)
 
-    pub remove-past : (l : List ℕ) (at : ℕ) → f n x ≡ None → seen l at does remove_from f (n + 1) v ≡ seen l at does remove_from f n v
-    remove-past l at q = remove-turn None v l l at at q (does-nothing v l at ∙ ap (λ (z : Effect). seen l at does z) (sym stood))
+    pub remove-past : (l : List ℕ) (at : ℕ) → f n x ≡ Stands → seen l at does remove_from f (n + 1) v ≡ seen l at does remove_from f n v
+    remove-past l at q = remove-turn Stands v l l at at q (does-nothing v l at ∙ ap (λ (z : Effect). seen l at does z) (sym stood))
 
 -- The loop ------------------------------------------------------------------------------------
 
 -- its invariant: what is left to do from place n on is what there was to do
-pub record Removing (f : ℕ → Legging → Option Cause) (b₀ out₀ : List ℕ) (at : ℕ) (b out : List ℕ) (pos n : ℕ) : Type 0 where
+pub record Removing (f : ℕ → Legging → Verdict) (b₀ out₀ : List ℕ) (at : ℕ) (b out : List ℕ) (pos n : ℕ) : Type 0 where
   pub few : n ≤ 16
   pub whole : length b ≡ size
   pub counts : SameCounts b₀ b
   pub left : seen out pos does remove_from f n (venue_of b) ≡ seen out₀ at does remove f (venue_of b₀)
 
-pub removing-start : (f : ℕ → Legging → Option Cause) (b out : List ℕ) (at : ℕ) → length b ≡ size → Removing f b out at b out at 0
+pub removing-start : (f : ℕ → Legging → Verdict) (b out : List ℕ) (at : ℕ) → length b ≡ size → Removing f b out at b out at 0
 removing-start f b out at h = record { few = omega arith; whole = h; counts = record { regulars = refl; complexes = refl; right = λ h. h }; left = remove-start f (venue_of b) (seen out at) }
 
-module _ (f : ℕ → Legging → Option Cause) {b₀ out₀ b out : List ℕ} {at pos n : ℕ} (i : Removing f b₀ out₀ at b out pos n) where
+module _ (f : ℕ → Legging → Verdict) {b₀ out₀ b out : List ℕ} {at pos n : ℕ} (i : Removing f b₀ out₀ at b out pos n) where
   -- the order at place n goes
-  pub removing-turn : (c : Cause) (b₁ out₁ : List ℕ) (r : ℕ) → n < 16 → f n (legging_in b n) ≡ Some c → length b₁ ≡ length b →
-      (stage (venue_of b₁) out₁ r ≡ seen out pos does remove_place n (Some c) (venue_of b)) × SameCounts b b₁ → Removing f b₀ out₀ at b₁ out₁ r (n + 1)
+  pub removing-turn : (c : Cause) (b₁ out₁ : List ℕ) (r : ℕ) → n < 16 → f n (legging_in b n) ≡ Fails c → length b₁ ≡ length b →
+      (stage (venue_of b₁) out₁ r ≡ seen out pos does remove_place n (Fails c) (venue_of b)) × SameCounts b b₁ → Removing f b₀ out₀ at b₁ out₁ r (n + 1)
   removing-turn c b₁ out₁ r h e k q = record {
     few = omega arith;
     whole = k ∙ i.whole;
     counts = counts-on b₀ b b₁ i.counts q.1;
-    left = remove-turn f (venue_of b) n (legging_in b n) (omega (arith, leggings-length b)) (legging-at b n h) (Some c) (venue_of b₁) out₁ out r pos e q.0 ∙ i.left;
+    left = remove-turn f (venue_of b) n (legging_in b n) (omega (arith, leggings-length b)) (legging-at b n h) (Fails c) (venue_of b₁) out₁ out r pos e q.0 ∙ i.left;
   }
 
   -- it stands
-  pub removing-past : n < 16 → f n (legging_in b n) ≡ None → Removing f b₀ out₀ at b out pos (n + 1)
+  pub removing-past : n < 16 → f n (legging_in b n) ≡ Stands → Removing f b₀ out₀ at b out pos (n + 1)
   removing-past h e = record {
     few = omega arith;
     whole = i.whole;
@@ -146,32 +148,32 @@ module _ (f : ℕ → Legging → Option Cause) {b₀ out₀ b out : List ℕ} {
   pub removing-end : 16 ≤ n → (stage (venue_of b) out pos ≡ seen out₀ at does remove f (venue_of b₀)) × SameCounts b₀ b
   removing-end h = ended (remove-end f (venue_of b) n (omega (arith, leggings-length b)))
 
-  pub removing-over : ((k : ℕ) (l : Legging) → n ≤ k → f k l ≡ None) → (stage (venue_of b) out pos ≡ seen out₀ at does remove f (venue_of b₀)) × SameCounts b₀ b
+  pub removing-over : ((k : ℕ) (l : Legging) → n ≤ k → f k l ≡ Stands) → (stage (venue_of b) out pos ≡ seen out₀ at does remove f (venue_of b₀)) × SameCounts b₀ b
   removing-over h = ended (remove-over f (venue_of b) n h)
 
 -- Two places ----------------------------------------------------------------------------------
 
 -- on to a later place, where those between stand
-removing-to : (f : ℕ → Legging → Option Cause) (b₀ out₀ b out : List ℕ) (at pos n : ℕ) → Removing f b₀ out₀ at b out pos n → (k m : ℕ) → m ≡ n + k → m ≤ 16 →
-    ((j : ℕ) (l : Legging) → n ≤ j → j < m → f j l ≡ None) → Removing f b₀ out₀ at b out pos m
+removing-to : (f : ℕ → Legging → Verdict) (b₀ out₀ b out : List ℕ) (at pos n : ℕ) → Removing f b₀ out₀ at b out pos n → (k m : ℕ) → m ≡ n + k → m ≤ 16 →
+    ((j : ℕ) (l : Legging) → n ≤ j → j < m → f j l ≡ Stands) → Removing f b₀ out₀ at b out pos m
 removing-to f b₀ out₀ b out at pos n i zero m e h g = let z : n ≡ m = omega arith in subst (λ (x : ℕ). Removing f b₀ out₀ at b out pos x) z i
 removing-to f b₀ out₀ b out at pos n i (suc k) m e h g =
     removing-to f b₀ out₀ b out at pos (n + 1) (removing-past f i (omega arith) (g n (legging_in b n) (omega arith) (omega arith))) k m (omega arith) h
     (λ j l p q. g j l (omega arith) q)
 
-module _ (f : ℕ → Legging → Option Cause) (c : Cause) (b out : List ℕ) (at : ℕ) (w : length b ≡ size) (b₁ out₁ : List ℕ) (r : ℕ) (k : length b₁ ≡ length b) where
-  pub one-gone : (n : ℕ) → n < 16 → ((l : Legging) → f n l ≡ Some c) → ((m : ℕ) (l : Legging) → (m ≡ n → ⊥) → f m l ≡ None) →
-      (stage (venue_of b₁) out₁ r ≡ seen out at does remove_place n (Some c) (venue_of b)) × SameCounts b b₁ →
+module _ (f : ℕ → Legging → Verdict) (c : Cause) (b out : List ℕ) (at : ℕ) (w : length b ≡ size) (b₁ out₁ : List ℕ) (r : ℕ) (k : length b₁ ≡ length b) where
+  pub one-gone : (n : ℕ) → n < 16 → ((l : Legging) → f n l ≡ Fails c) → ((m : ℕ) (l : Legging) → (m ≡ n → ⊥) → f m l ≡ Stands) →
+      (stage (venue_of b₁) out₁ r ≡ seen out at does remove_place n (Fails c) (venue_of b)) × SameCounts b b₁ →
       (stage (venue_of b₁) out₁ r ≡ seen out at does remove f (venue_of b)) × SameCounts b b₁
   one-gone n h x s q =
       let i = removing-to f b out b out at at 0 (removing-start f b out at w) n n (omega arith) (omega arith) (λ j l _ p. s j l (λ e. omega arith)) in
       let j = removing-turn f i c b₁ out₁ r h (x (legging_in b n)) k q in
       removing-over f j (λ m l p. s m l (λ e. omega arith))
 
-  pub two_gone : (n m : ℕ) → n < m → m < 16 → ((l : Legging) → f n l ≡ Some c) → ((l : Legging) → f m l ≡ Some c) →
-      ((j : ℕ) (l : Legging) → (j ≡ n → ⊥) → (j ≡ m → ⊥) → f j l ≡ None) →
-      (stage (venue_of b₁) out₁ r ≡ seen out at does remove_place n (Some c) (venue_of b)) × SameCounts b b₁ →
-      (b₂ out₂ : List ℕ) (t : ℕ) → length b₂ ≡ length b₁ → (stage (venue_of b₂) out₂ t ≡ seen out₁ r does remove_place m (Some c)
+  pub two_gone : (n m : ℕ) → n < m → m < 16 → ((l : Legging) → f n l ≡ Fails c) → ((l : Legging) → f m l ≡ Fails c) →
+      ((j : ℕ) (l : Legging) → (j ≡ n → ⊥) → (j ≡ m → ⊥) → f j l ≡ Stands) →
+      (stage (venue_of b₁) out₁ r ≡ seen out at does remove_place n (Fails c) (venue_of b)) × SameCounts b b₁ →
+      (b₂ out₂ : List ℕ) (t : ℕ) → length b₂ ≡ length b₁ → (stage (venue_of b₂) out₂ t ≡ seen out₁ r does remove_place m (Fails c)
       (venue_of b₁)) × SameCounts b₁ b₂ →
       (stage (venue_of b₂) out₂ t ≡ seen out at does remove f (venue_of b)) × SameCounts b b₂
   two_gone n m h g x y s q b₂ out₂ t k₂ q₂ =
@@ -187,58 +189,58 @@ module _ (f : ℕ → Legging → Option Cause) (c : Cause) (b out : List ℕ) (
 
 -- by parent, of what is read at a place
 module _ (id : ℕ) (c : Cause) {l x : Legging} (e : l ≡ x) where
-  pub by-parent : l.parent ≡ id → fail_if (eqb x.parent id) c ≡ Some c
+  pub by-parent : l.parent ≡ id → fail_if (eqb x.parent id) c ≡ Fails c
   unfolding fail_if
   by-parent h = rw (← e) (simp (eq-eqb _ _ h))
 
-  pub not-parent : (l.parent ≡ id → ⊥) → fail_if (eqb x.parent id) c ≡ None
+  pub not-parent : (l.parent ≡ id → ⊥) → fail_if (eqb x.parent id) c ≡ Stands
   unfolding fail_if
   not-parent h = rw (← e) (simp (ne_eqb _ _ h))
 
 -- by place
 module _ (a n : ℕ) (c : Cause) where
-  pub at_place : n ≡ a → fail_if (eqb n a) c ≡ Some c
+  pub at_place : n ≡ a → fail_if (eqb n a) c ≡ Fails c
   unfolding fail_if
   at_place h = simp (eq-eqb _ _ h)
 
-  pub at_other : (n ≡ a → ⊥) → fail_if (eqb n a) c ≡ None
+  pub at_other : (n ≡ a → ⊥) → fail_if (eqb n a) c ≡ Stands
   unfolding fail_if
   at_other h = simp (ne_eqb _ _ h)
 
 module _ (a b n : ℕ) (c : Cause) where
-  pub at_one : n ≡ a → fail_if (eqb n a || eqb n b) c ≡ Some c
+  pub at_one : n ≡ a → fail_if (eqb n a || eqb n b) c ≡ Fails c
   unfolding fail_if
   at_one h = simp (eq-eqb _ _ h)
 
-  pub at-two : n ≡ b → fail_if (eqb n a || eqb n b) c ≡ Some c
+  pub at-two : n ≡ b → fail_if (eqb n a || eqb n b) c ≡ Fails c
   unfolding fail_if
   at-two h = go (eqb n a)
     where
-      go : (t : Bool) → fail_if (t || eqb n b) c ≡ Some c
+      go : (t : Bool) → fail_if (t || eqb n b) c ≡ Fails c
       go true = refl
       go false = simp (eq-eqb _ _ h)
 
-  pub at-neither : (n ≡ a → ⊥) → (n ≡ b → ⊥) → fail_if (eqb n a || eqb n b) c ≡ None
+  pub at-neither : (n ≡ a → ⊥) → (n ≡ b → ⊥) → fail_if (eqb n a || eqb n b) c ≡ Stands
   unfolding fail_if
   at-neither h k = simp (ne_eqb _ _ h, ne_eqb _ _ k)
 
 -- the number of a verdict, read back
-pub verdict-back : (x : Option Cause) → verdict_by (verdict_number x) ≡ x
+pub verdict-back : (x : Verdict) → verdict_by (verdict_number x) ≡ x
 unfolding verdict_by
-verdict-back None = refl
-verdict-back (Some Worse) = refl
-verdict-back (Some Unpaired) = refl
-verdict-back (Some Executed) = refl
-verdict-back (Some Withdrawn) = refl
-verdict-back (Some OutOfBand) = refl
-verdict-back (Some NotOpen) = refl
-verdict-back (Some Replaced) = refl
-verdict-back (Some Touched) = refl
-verdict-back (Some NoUnit) = refl
+verdict-back Stands = refl
+verdict-back (Fails Worse) = refl
+verdict-back (Fails Unpaired) = refl
+verdict-back (Fails Executed) = refl
+verdict-back (Fails Withdrawn) = refl
+verdict-back (Fails OutOfBand) = refl
+verdict-back (Fails NotOpen) = refl
+verdict-back (Fails Replaced) = refl
+verdict-back (Fails Touched) = refl
+verdict-back (Fails NoUnit) = refl
 
 -- The same verdicts, the same removal ---------------------------------------------------------
 
-module _ (f g : ℕ → Legging → Option Cause) where
+module _ (f g : ℕ → Legging → Verdict) where
   same_from : (n : ℕ) (ls : List Legging) → ((i : ℕ) → i < length ls → f (n + i) (get_or ls i no_legging) ≡ g (n + i) (get_or ls i no_legging)) →
       (stayers f n ls ≡ stayers g n ls) × (leavers f n ls ≡ leavers g n ls)
   unfolding stayers leavers
@@ -294,7 +296,7 @@ module _ {causes rest n : ℕ} (i : Left causes rest n) where
       ap verdict_by (sym (i.same 0 ∙ ap (cause_at causes) z))
 
   -- where nothing is left, the places from n on stand
-  pub left_over : rest ≡ 0 → (k : ℕ) (l : Legging) → n ≤ k → verdict_in causes k l ≡ None
+  pub left_over : rest ≡ 0 → (k : ℕ) (l : Legging) → n ≤ k → verdict_in causes k l ≡ Stands
   unfolding verdict_in verdict_by
   left_over h k l q =
       let z : k ≡ n + (k - n) = omega arith in
@@ -306,7 +308,7 @@ unfolding verdict_in verdict_by remove_from remove
 no-causes causes v h = remove-over (verdict_in causes) v 0 (λ k l q. ap verdict_by (no-cause causes k h))
 
 -- causes that are the numbers of f's verdicts remove by f
-pub causes-are : (f : ℕ → Legging → Option Cause) (causes : ℕ) (b : List ℕ) → ((n : ℕ) → n < 16 → cause_at causes n ≡ verdict_number (f n (legging_in b n))) →
+pub causes-are : (f : ℕ → Legging → Verdict) (causes : ℕ) (b : List ℕ) → ((n : ℕ) → n < 16 → cause_at causes n ≡ verdict_number (f n (legging_in b n))) →
     remove (verdict_in causes) (venue_of b) ≡ remove f (venue_of b)
 unfolding verdict_in
 causes-are f causes b h = remove-same (verdict_in causes) f (venue_of b) (λ n q. go n (omega (arith, leggings-length b)))
@@ -316,11 +318,11 @@ causes-are f causes b h = remove-same (verdict_in causes) f (venue_of b) (λ n q
 
 -- Where nothing is held, nothing goes ---------------------------------------------------------
 
-module _ (f : ℕ → Legging → Option Cause) where
-  free_stays : (x : Option Cause) (l : Legging) (n : ℕ) → l.quantity ≡ 0 → (stay x l ≡ l) × (goes n x l ≡ [])
+module _ (f : ℕ → Legging → Verdict) where
+  free_stays : (x : Verdict) (l : Legging) (n : ℕ) → l.quantity ≡ 0 → (stay x l ≡ l) × (goes n x l ≡ [])
   unfolding stay goes
-  free_stays None l n h = (refl, refl)
-  free_stays (Some c) l n h = (simp (eq-eqb _ _ h), simp (eq-eqb _ _ h))
+  free_stays Stands l n h = (refl, refl)
+  free_stays (Fails c) l n h = (simp (eq-eqb _ _ h), simp (eq-eqb _ _ h))
 
   empty-from : (n : ℕ) (ls : List Legging) → mask ls ≡ 0 → (stayers f n ls ≡ ls) × (leavers f n ls ≡ [])
   unfolding stayers leavers mask

@@ -1,7 +1,8 @@
 // Removal of legging orders from the venue as numbers: those that fail go, with their records (68) by rising place.
 #![tactic(auto)]
 
-ghost use Rattle.std.specs.Prelude.{◌≡◌, ◌||◌, ℕ, eqb, Some, ◌<◌};
+ghost use Rattle.std.specs.Prelude.{◌≡◌, ◌||◌, ℕ, eqb, ◌<◌};
+ghost use Rattle.rules.specs.declared.Verdict.TheVariants.{Fails};
 ghost use Rattle.rules.specs.Removal.{remove, remove_of, fail_if};
 ghost use Rattle.records.specs.Seen.{seen};
 ghost use Rattle.records.specs.Stage.{stage, ◌does◌};
@@ -10,13 +11,13 @@ ghost use Rattle.removal.specs.Causes.{remove_place, verdict_by, verdict_in};
 ghost use Rattle.places.specs.Requirements.{PlacesReady};
 
 use places::Numbers;
-use rules::Cause;
+use rules::{Cause, Verdict};
 
 // The legging order at place n goes; a free place stays as it is.
 pub fn remove_one(numbers: &mut Numbers, n: usize, cause: Cause, out: &mut [u8], at: usize) -> usize
     requires { n < 16 }
     ensures result_after { stage (venue_of numbers.new) out.new result ≡ seen out.old at does remove (λ m _. fail_if (eqb m n) cause) (venue_of numbers.old) }
-    ensures place_after { stage (venue_of numbers.new) out.new result ≡ seen out.old at does remove_place n (Some cause) (venue_of numbers.old) }
+    ensures place_after { stage (venue_of numbers.new) out.new result ≡ seen out.old at does remove_place n (Fails cause) (venue_of numbers.old) }
     ensures counts { SameCounts numbers.old numbers.new }
 {
     let l = places::legging_at(numbers, n);
@@ -74,22 +75,22 @@ pub fn remove_at(
     remove_one(numbers, n2, cause, out, pos)
 }
 
-// The cause of a number; None where it is no cause's.
+// The verdict of a number: the order stands where it is no cause's.
 #[tactic(auto, unfolding(crate::specs::Causes::verdict_by))]
-pub fn verdict_by(x: u8) -> Option<Cause>
+pub fn verdict_by(x: u8) -> Verdict
     ensures { result ≡ verdict_by x }
 {
     match x {
-        1 => Some(Cause::Worse),
-        2 => Some(Cause::Unpaired),
-        3 => Some(Cause::Executed),
-        4 => Some(Cause::Withdrawn),
-        5 => Some(Cause::OutOfBand),
-        6 => Some(Cause::NotOpen),
-        7 => Some(Cause::Replaced),
-        8 => Some(Cause::Touched),
-        10 => Some(Cause::NoUnit),
-        _ => None,
+        1 => Verdict::Fails(Cause::Worse),
+        2 => Verdict::Fails(Cause::Unpaired),
+        3 => Verdict::Fails(Cause::Executed),
+        4 => Verdict::Fails(Cause::Withdrawn),
+        5 => Verdict::Fails(Cause::OutOfBand),
+        6 => Verdict::Fails(Cause::NotOpen),
+        7 => Verdict::Fails(Cause::Replaced),
+        8 => Verdict::Fails(Cause::Touched),
+        10 => Verdict::Fails(Cause::NoUnit),
+        _ => Verdict::Stands,
     }
 }
 
@@ -107,7 +108,7 @@ pub fn remove_by_causes(numbers: &mut Numbers, causes: u64, out: &mut [u8], at: 
         n += 1;
         let x = (rest % 16) as u8;
         rest /= 16;
-        let Some(cause) = verdict_by(x) else {
+        let Verdict::Fails(cause) = verdict_by(x) else {
             continue;
         };
         pos = remove_one(numbers, place, cause, out, pos);

@@ -1,5 +1,5 @@
 -- Effects that change legging places and generations alone: removals, and what is generated. Their records tell it upon any venue that has the same of these.
-use Rattle.std.specs.Prelude.{if◌then◌else◌, None, Option, Some}
+use Rattle.std.specs.Prelude.{if◌then◌else◌}
 use mathlib.Core.Path.{◌∙◌, ◌≡◌, ap, refl, sym}
 use mathlib.Core.Bool.{Bool, ◌&&◌, false, true}
 use mathlib.Core.List.{List, [], ◌++◌, ◌∷◌, append_assoc}
@@ -10,7 +10,8 @@ use lib.Seq.{set_at}
 use Rattle.rules.specs.declared.Complex.{Complex}
 use Rattle.rules.specs.declared.Legging.{Legging}
 use Rattle.rules.specs.declared.Venue.{Venue}
-use Rattle.rules.specs.declared.Cause.{Cause}
+use Rattle.rules.specs.declared.Verdict.{Verdict}
+use Rattle.rules.specs.declared.Verdict.TheVariants.{Fails, Stands}
 use Rattle.rules.specs.Base.{held}
 use Rattle.rules.specs.Words.{no_legging, place_of, with_generations, with_legging}
 use Rattle.rules.specs.Records.{generated, removed}
@@ -29,17 +30,17 @@ place-back : (n : ℕ) → place_of (n / 2) (n % 2) ≡ n
 unfolding place_of
 place-back n = omega arith
 
-module _ (f : ℕ → Legging → Option Cause) (w : Venue) (x : State) where
+module _ (f : ℕ → Legging → Verdict) (w : Venue) (x : State) where
   -- w with these legging places
   abbrev at : List Legging → State
   at ls = noted x (with_legging w ls)
 
   -- what goes from place n, the places of `front` before it
-  one-goes : (x : Option Cause) (front : List Legging) (l : Legging) (ls : List Legging) (n : ℕ) → length front ≡ n →
+  one-goes : (x : Verdict) (front : List Legging) (l : Legging) (ls : List Legging) (n : ℕ) → length front ≡ n →
       replay (at (front ++ (l ∷ ls))) (goes n x l) ≡ at (front ++ (stay x l ∷ ls))
   unfolding goes stay replay
-  one-goes None front l ls n e = refl
-  one-goes (Some c) front l ls n e = go (held l.quantity)
+  one-goes Stands front l ls n e = refl
+  one-goes (Fails c) front l ls n e = go (held l.quantity)
     where
       gone : next (removed l.parent (n / 2) (n % 2) c) (at (front ++ (l ∷ ls))) ≡ at (front ++ (no_legging ∷ ls))
       gone = unfold next noted placed with_legging in (rw (place-back n, set_at front l ls no_legging n e))
@@ -60,21 +61,21 @@ module _ (f : ℕ → Legging → Option Cause) (w : Venue) (x : State) where
       ∙ ap at (append_assoc front (stay x l ∷ []) (stayers f (suc n) ls))
 
 -- nothing is claimed at a removal's moment
-goes-free : (n : ℕ) (x : Option Cause) (l : Legging) (s : State) → AtEach s (goes n x l)
+goes-free : (n : ℕ) (x : Verdict) (l : Legging) (s : State) → AtEach s (goes n x l)
 unfolding goes
-goes-free n None l s = tt
-goes-free n (Some c) l s = go (held l.quantity)
+goes-free n Stands l s = tt
+goes-free n (Fails c) l s = go (held l.quantity)
   where
     go : (b : Bool) → AtEach s (if b then removed l.parent (n / 2) (n % 2) c ∷ [] else [])
     go true = (tt, tt)
     go false = tt
 
-leavers-free : (f : ℕ → Legging → Option Cause) (n : ℕ) (ls : List Legging) (s : State) → AtEach s (leavers f n ls)
+leavers-free : (f : ℕ → Legging → Verdict) (n : ℕ) (ls : List Legging) (s : State) → AtEach s (leavers f n ls)
 unfolding leavers
 leavers-free f n [] s = tt
 leavers-free f n (l ∷ ls) s = each_append s (goes n (f n l) l) (leavers f (suc n) ls) (goes-free n (f n l) l s) (leavers-free f (suc n) ls _)
 
-pub tells-remove : (f : ℕ → Legging → Option Cause) (v : Venue) → Tells v (remove f v)
+pub tells-remove : (f : ℕ → Legging → Verdict) (v : Venue) → Tells v (remove f v)
 unfolding remove with_legging
 tells-remove f v x = record { replays = all_go f v x [] v.legging 0 refl; moments = leavers-free f 0 v.legging _ }
 
@@ -89,7 +90,7 @@ pub record Places (number : ℕ) (v : Venue) (e : Effect) : Type 0 where
   pub keeps : e.venue ≡ likened v e.venue
   pub tells : (w : Venue) (x : State) → x.number ≡ number → TellsFrom x (likened w v) (record { venue = likened w e.venue; reports = e.reports })
 
-pub places-remove : (number : ℕ) (f : ℕ → Legging → Option Cause) (v : Venue) → Places number v (remove f v)
+pub places-remove : (number : ℕ) (f : ℕ → Legging → Verdict) (v : Venue) → Places number v (remove f v)
 unfolding remove likened with_legging with_generations
 places-remove number f v = record { keeps = refl; tells = λ w x _. unfold remove with_legging in (tells-remove f (likened w v) x) }
 

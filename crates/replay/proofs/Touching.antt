@@ -1,5 +1,5 @@
 -- Touch, and the legging in after it: where best regular prices net to the limit or less, no legging order stands on either side that is taken, since it was touched.
-use Rattle.std.specs.Prelude.{if◌then◌else◌, Option, Some}
+use Rattle.std.specs.Prelude.{if◌then◌else◌}
 use mathlib.Core.Path.{◌∙◌, ◌≡◌, refl, subst, sym}
 use mathlib.Core.Bool.{Bool, ◌&&◌, ◌||◌, false, not, true, true≢false}
 use mathlib.Core.Logic.{◌≢◌}
@@ -16,6 +16,8 @@ use Rattle.rules.specs.declared.Cause.{Cause}
 use Rattle.rules.specs.declared.Complex.{Complex}
 use Rattle.rules.specs.declared.Legging.{Legging}
 use Rattle.rules.specs.declared.Venue.{Venue}
+use Rattle.rules.specs.declared.Verdict.{Verdict}
+use Rattle.rules.specs.declared.Verdict.TheVariants.{Fails}
 use Rattle.rules.specs.Base.{held}
 use Rattle.rules.specs.Words.{buy, complex_at, legging_at, no_legging, opposite, place_of, sign_times, with_legging}
 use Rattle.rules.specs.Effects.{Effect, nothing}
@@ -86,7 +88,7 @@ module _ (v : Venue) (some : Positive v) (s e n : ℕ) (t : shows_at s e (reg v 
 -- Touch ---------------------------------------------------------------------------------------
 
 -- what goes from a place leaves no own price there
-gone_at : (f : ℕ → Legging → Option Cause) (c : Cause) (n : ℕ) (ls : List Legging) (i : ℕ) → ((l : Legging) → f (n + i) l ≡ Some c) → own_price (get_or (stayers f n ls) i no_legging) ≡ 0
+gone_at : (f : ℕ → Legging → Verdict) (c : Cause) (n : ℕ) (ls : List Legging) (i : ℕ) → ((l : Legging) → f (n + i) l ≡ Fails c) → own_price (get_or (stayers f n ls) i no_legging) ≡ 0
 unfolding stayers stay own_price
 gone_at f c n [] i h = refl
 gone_at f c n (l ∷ ls) zero h = rw (rw add-zero at (h l)) (go (held l.quantity) refl)

@@ -1,5 +1,5 @@
 -- Sums over records and over places: of two lists, of removals, of one trade, of a book when an order is filled or put.
-use Rattle.std.specs.Prelude.{if◌then◌else◌, None, Option, Some}
+use Rattle.std.specs.Prelude.{if◌then◌else◌}
 use mathlib.Core.Path.{◌≡◌, refl, sym}
 use mathlib.Core.Bool.{Bool, ◌&&◌, false, true}
 use mathlib.Core.Logic.{◌≢◌}
@@ -13,6 +13,8 @@ use borrow.Author.Tests.{eq-eqb, eqb-true, ne_eqb}
 use Rattle.rules.specs.declared.Cause.{Cause}
 use Rattle.rules.specs.declared.Legging.{Legging}
 use Rattle.rules.specs.declared.Venue.{Venue}
+use Rattle.rules.specs.declared.Verdict.{Verdict}
+use Rattle.rules.specs.declared.Verdict.TheVariants.{Fails, Stands}
 use Rattle.rules.specs.Base.{held}
 use Rattle.rules.specs.Words.{complex_at, no_complex, no_regular, regular_at, with_complex, with_regular}
 use Rattle.rules.specs.Records.{Report, removed, trade}
@@ -39,12 +41,12 @@ total-then f e g = total-append f _ _
 
 -- removals count nothing
 module _ (f : Report → ℕ) (silent : (id s d : ℕ) (c : Cause) → f (removed id s d c) ≡ 0) where
-  goes_silent : (n : ℕ) (x : Option Cause) (l : Legging) → total f (goes n x l) ≡ 0
+  goes_silent : (n : ℕ) (x : Verdict) (l : Legging) → total f (goes n x l) ≡ 0
   unfolding goes total
-  goes_silent n None l = refl
-  goes_silent n (Some c) l = if-by (λ rs. total f rs ≡ 0) (held l.quantity) (λ _. rw silent) (λ _. refl)
+  goes_silent n Stands l = refl
+  goes_silent n (Fails c) l = if-by (λ rs. total f rs ≡ 0) (held l.quantity) (λ _. rw silent) (λ _. refl)
 
-  pub leavers-silent : (g : ℕ → Legging → Option Cause) (n : ℕ) (ls : List Legging) → total f (leavers g n ls) ≡ 0
+  pub leavers-silent : (g : ℕ → Legging → Verdict) (n : ℕ) (ls : List Legging) → total f (leavers g n ls) ≡ 0
   unfolding leavers total
   leavers-silent g n [] = refl
   leavers-silent g n (l ∷ ls) = rw (total-append, goes_silent, leavers-silent g (suc n) ls)

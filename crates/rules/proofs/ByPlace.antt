@@ -1,11 +1,12 @@
 -- Request (f): "The 68 records of one settling now come by rising place." So do those of all removals made together.
-use Rattle.std.specs.Prelude.{None, Option, Some}
 use mathlib.Core.List.{List, [], ◌∷◌, ◌++◌}
 use Prim.Native.Nat.{ℕ, suc, ◌≤◌, ◌/◌, ◌%◌}
 use native.Mathlib.Omega.{arith}
 use Rattle.rules.specs.declared.Cause.{Cause}
 use Rattle.rules.specs.declared.Legging.{Legging}
 use Rattle.rules.specs.declared.Venue.{Venue}
+use Rattle.rules.specs.declared.Verdict.{Verdict}
+use Rattle.rules.specs.declared.Verdict.TheVariants.{Stands, Fails}
 use Rattle.rules.specs.Base.{held}
 use Rattle.rules.specs.Records.{Report, removed}
 use Rattle.rules.specs.Removal.{goes, leavers, remove}
@@ -22,19 +23,19 @@ later : {n : ℕ} {rs : List Report} → ByPlace (suc n) rs → ByPlace n rs
 later none = none
 later {n} (next m h p c r) = next {n = n} m (omega arith) p c r
 
-goes_first : (n : ℕ) (x : Option Cause) (l : Legging) {rs : List Report} → ByPlace (suc n) rs → ByPlace n (goes n x l ++ rs)
+goes_first : (n : ℕ) (x : Verdict) (l : Legging) {rs : List Report} → ByPlace (suc n) rs → ByPlace n (goes n x l ++ rs)
 unfolding goes
-goes_first n None l r = later r
-goes_first n (Some c) l {rs} r =
+goes_first n Stands l r = later r
+goes_first n (Fails c) l {rs} r =
     if-by (λ (a : List Report). ByPlace n (a ++ rs)) (held l.quantity) (λ _. next {n = n} n (omega arith) l.parent c r) (λ _. later r)
 
-leavers-by-place : (f : ℕ → Legging → Option Cause) (n : ℕ) (ls : List Legging) → ByPlace n (leavers f n ls)
+leavers-by-place : (f : ℕ → Legging → Verdict) (n : ℕ) (ls : List Legging) → ByPlace n (leavers f n ls)
 unfolding leavers
 leavers-by-place f n [] = none
 leavers-by-place f n (l ∷ ls) = goes_first n (f n l) l (leavers-by-place f (suc n) ls)
 
 -- "removals made together come by place"
-pub removed-by-place : (f : ℕ → Legging → Option Cause) (v : Venue) → ByPlace 0 (remove f v).reports
+pub removed-by-place : (f : ℕ → Legging → Verdict) (v : Venue) → ByPlace 0 (remove f v).reports
 unfolding remove
 removed-by-place f v = leavers-by-place f 0 v.legging
 

@@ -1,5 +1,4 @@
 -- Whatever fills, removals and showing again keep, every effect keeps but admission and generation.
-use Rattle.std.specs.Prelude.{Option}
 use mathlib.Core.Path.{subst}
 use mathlib.Core.List.{List, [], ◌∷◌}
 use mathlib.Core.Bool.{◌&&◌}
@@ -8,6 +7,7 @@ use lib.IntN.{ℤ}
 use Rattle.rules.specs.declared.Cause.{Cause}
 use Rattle.rules.specs.declared.Legging.{Legging}
 use Rattle.rules.specs.declared.Venue.{Venue}
+use Rattle.rules.specs.declared.Verdict.{Verdict}
 use Rattle.rules.specs.Base.{held}
 use Rattle.rules.specs.Words.{complex_at}
 use Rattle.rules.specs.Effects.{Effect, Turn, ◌⟫◌, ended, nothing, repeat, report, turned}
@@ -28,7 +28,7 @@ keeps-each_of P f ok (i ∷ places) v h = keeps-each_of P f ok places _ (ok i v 
 pub record Lasts (P : Venue → Type 0) : Type 0 where
   pub fill_r : (i k : ℕ) (v : Venue) → P v → P (fill_regular i k v)
   pub fill_c : (i k : ℕ) (v : Venue) → P v → P (fill_complex i k v)
-  pub gone : (f : ℕ → Legging → Option Cause) (v : Venue) → P v → P (remove f v).venue
+  pub gone : (f : ℕ → Legging → Verdict) (v : Venue) → P v → P (remove f v).venue
   pub again : (v : Venue) → P v → P (show_again v)
 
 module _ {P : Venue → Type 0} (lasts : Lasts P) where

@@ -1,7 +1,7 @@
 -- The fuel of each loop is enough: each turn trades at least one contract of its order, so what document 01 goes on with "while" has come to
 -- its end. `after-matching`: after an order has met the other side nothing there reaches it. `after-crossing`: after crossing no order crosses with it.
 -- `after-legging-in`: after legging in the best prices no longer net. None of them asks anything of the venue.
-use Rattle.std.specs.Prelude.{if◌then◌else◌, Option}
+use Rattle.std.specs.Prelude.{if◌then◌else◌}
 use mathlib.Core.Path.{◌∙◌, ◌≡◌, ap, refl, subst, sym}
 use mathlib.Core.Bool.{Bool, ◌&&◌, ◌||◌, false, false≢true, not, true, true≢false}
 use mathlib.Core.List.{List, [], ◌∷◌}
@@ -15,7 +15,7 @@ use Rattle.rules.specs.declared.Complex.{Complex}
 use Rattle.rules.specs.declared.Legging.{Legging}
 use Rattle.rules.specs.declared.Regular.{Regular}
 use Rattle.rules.specs.declared.Venue.{Venue}
-use Rattle.rules.specs.declared.Cause.{Cause}
+use Rattle.rules.specs.declared.Verdict.{Verdict}
 use Rattle.rules.specs.Base.{held, nobody}
 use Rattle.rules.specs.Words.{buy, complex_at, legging_at, no_complex, no_regular, opposite, regular_at, with_complex, with_legging, with_regular}
 use Rattle.rules.specs.Effects.{Effect, Turn, ◌⟫◌, ended, nothing, repeat, turned}
@@ -62,7 +62,7 @@ turned-not h = let z : ◌≡◌ {A = ℕ} 0 1 = cc in absurd (omega arith)
 record Shrinks (size : Venue → ℕ) : Type 0 where
   fill_r : (j k : ℕ) (v : Venue) → size (fill_regular j k v) ≤ size v
   fill_c : (j k : ℕ) (v : Venue) → size (fill_complex j k v) ≤ size v
-  gone : (f : ℕ → Legging → Option Cause) (v : Venue) → size (remove f v).venue ≤ size v
+  gone : (f : ℕ → Legging → Verdict) (v : Venue) → size (remove f v).venue ≤ size v
   again : (v : Venue) → size (show_again v) ≤ size v
 
 -- stays at most n

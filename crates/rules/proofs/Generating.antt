@@ -1,5 +1,5 @@
 -- Generation: the new legging order passes its own test, and each other passes as it did.
-use Rattle.std.specs.Prelude.{if◌then◌else◌, None, Option, Some}
+use Rattle.std.specs.Prelude.{if◌then◌else◌}
 use mathlib.Core.Path.{◌≡◌, refl}
 use mathlib.Core.Bool.{Bool, true, false, not, ◌&&◌, ◌||◌, false≢true}
 use mathlib.Core.Logic.{◌≢◌, inl}
@@ -17,7 +17,8 @@ use borrow.Author.Tests.{le-leb, leb-true, ne_eqb}
 use Rattle.rules.specs.declared.Complex.{Complex}
 use Rattle.rules.specs.declared.Legging.{Legging}
 use Rattle.rules.specs.declared.Venue.{Venue}
-use Rattle.rules.specs.declared.Cause.{Cause}
+use Rattle.rules.specs.declared.Verdict.{Verdict}
+use Rattle.rules.specs.declared.Verdict.TheVariants.{Stands, Fails}
 use Rattle.rules.specs.declared.Cause.TheVariants.{Replaced}
 use Rattle.rules.proofs.Tests.{and_l, and_r, or_r, if-same}
 use Rattle.rules.proofs.Cases.{if-by}
@@ -145,15 +146,15 @@ module _ (v : Venue) (c : Complex) (s d : ℕ) where
 -- The venue after generation ------------------------------------------------------------------
 
 -- removing at place m alone and then writing there is writing there
-stayers-id : (f : ℕ → Legging → Option Cause) (n : ℕ) (ls : List Legging) → ((k : ℕ) (l : Legging) → n ≤ k → f k l ≡ None) → stayers f n ls ≡ ls
+stayers-id : (f : ℕ → Legging → Verdict) (n : ℕ) (ls : List Legging) → ((k : ℕ) (l : Legging) → n ≤ k → f k l ≡ Stands) → stayers f n ls ≡ ls
 unfolding stayers stay
 stayers-id f n [] h = refl
 stayers-id f n (l ∷ ls) h = rw (h n l (omega arith), stayers-id f (suc n) ls (λ k l' q. h k l' (omega arith)))
 
-only : ℕ → ℕ → Legging → Option Cause
+only : ℕ → ℕ → Legging → Verdict
 only m n l = fail_if (eqb n m) Replaced
 
-only-other : (m n : ℕ) (l : Legging) → n ≢ m → only m n l ≡ None
+only-other : (m n : ℕ) (l : Legging) → n ≢ m → only m n l ≡ Stands
 unfolding only fail_if
 only-other m n l ne = rw (ne_eqb n m ne)
 
@@ -169,12 +170,12 @@ make-venue number v c s d = rw (set-stayers (place_of s d) 0 (place_of s d) v.le
 
 -- every legging order of w passes its test
 unfoldable pub AllStand : Venue → Type 0
-AllStand w = (i : ℕ) → verdict w i (get_or w.legging i no_legging) ≡ None
+AllStand w = (i : ℕ) → verdict w i (get_or w.legging i no_legging) ≡ Stands
 
-pub is-stands : (x : Option Cause) → stands x ≡ true → x ≡ None
+pub is-stands : (x : Verdict) → stands x ≡ true → x ≡ Stands
 unfolding stands
-is-stands None h = refl
-is-stands (Some c) h = absurd (false≢true h)
+is-stands Stands h = refl
+is-stands (Fails c) h = absurd (false≢true h)
 
 -- the ceiling's count moves no test
 counted-stands : (number s : ℕ) (w : Venue) → AllStand w → AllStand (counted number s w)
@@ -185,7 +186,7 @@ counted-stands number s w a i = verdict-kept (thins number s w) i _ (unfold coun
     thins number s w = unfold counted with_generations in (record { regular = refl; complex = refl; series = refl; editions = refl; legging = λ i. unfold SameOrGone in (inl refl) })
 
 others-stand : (w : Venue) (m n : ℕ) (ls : List Legging) (i : ℕ) → others_stand w m n ls ≡ true → n + i ≢ m →
-    verdict w (n + i) (get_or ls i no_legging) ≡ None
+    verdict w (n + i) (get_or ls i no_legging) ≡ Stands
 unfolding others_stand
 others-stand w m n [] i h ne = free-stands w (n + i) no_legging refl
 others-stand w m n (l ∷ ls) zero h ne =
@@ -198,7 +199,7 @@ others-stand w m n (l ∷ ls) (suc i) h ne =
 module _ (v : Venue) (c : Complex) (s d : ℕ) (step : 0 < increment v s)
     (d2 : d < 2) (e2 : opposite (other_leg c s).side < 2) (ne : s ≢ (other_leg c s).series)
     (own : find_complex c.id v.complex ≡ c) (fits : place_of s d < length v.legging) where
-  new-stands : {number : ℕ} → Makes number v c s d → verdict (after v c s d) (place_of s d) (new v c s d) ≡ None
+  new-stands : {number : ℕ} → Makes number v c s d → verdict (after v c s d) (place_of s d) (new v c s d) ≡ Stands
   unfolding verdict parent_of placed with_legging new_legging
   new-stands m =
       rw (own, place-series s d d2, place-side s d d2, passing (new-passes v c s d step d2 e2 ne m), if-same)
@@ -207,7 +208,7 @@ module _ (v : Venue) (c : Complex) (s d : ℕ) (step : 0 < increment v s)
   unfolding AllStand placed with_legging
   after-stands m i = go (ℕ_discrete i (place_of s d))
     where
-      go : Dec (i ≡ place_of s d) → verdict (after v c s d) i (get_or (after v c s d).legging i no_legging) ≡ None
+      go : Dec (i ≡ place_of s d) → verdict (after v c s d) i (get_or (after v c s d).legging i no_legging) ≡ Stands
       go (yes e) = rw (e, get_or-set_same) (new-stands m)
       go (no f) = rw zero-add at (others-stand (after v c s d) (place_of s d) 0 (after v c s d).legging i m.others (λ y. f (omega arith)))
 

@@ -1,5 +1,4 @@
 -- The ledger: of every id, what is open falls by what the records say of it. `Moves v e`: the effect e upon v does so.
-use Rattle.std.specs.Prelude.{Option}
 use mathlib.Core.Path.{◌∙◌, ◌≡◌, ap, refl, sym}
 use mathlib.Core.Bool.{true}
 use mathlib.Core.List.{List, [], ◌++◌}
@@ -10,6 +9,7 @@ use Rattle.rules.specs.declared.Cause.{Cause}
 use Rattle.rules.specs.declared.Complex.{Complex}
 use Rattle.rules.specs.declared.Legging.{Legging}
 use Rattle.rules.specs.declared.Venue.{Venue}
+use Rattle.rules.specs.declared.Verdict.{Verdict}
 use Rattle.rules.specs.Base.{held}
 use Rattle.rules.specs.Words.{with_generations, with_legging, with_regular}
 use Rattle.rules.specs.Records.{Report, generated}
@@ -135,7 +135,7 @@ pub moves-then : {v : Venue} (e : Effect) (f : Venue → Effect) → Moves v e �
 unfolding ◌⟫◌
 moves-then e f a b = moved-trans a b
 
-pub moves-remove : (f : ℕ → Legging → Option Cause) (v : Venue) → Moves v (remove f v)
+pub moves-remove : (f : ℕ → Legging → Verdict) (v : Venue) → Moves v (remove f v)
 unfolding remove with_legging contracts paired crossed_for cancelled_of
 moves-remove f v = moved-silent refl refl refl (record {
   contracts0 = λ y s. leavers-silent (contracts y s) (λ _ _ _ _. refl) f 0 v.legging;

@@ -1,6 +1,6 @@
 -- Own prices: of the regular orders of a side and of its legging order. Fills, removals, showing again and closed gaps make none; the best own price is
 -- one of them, and none is better where each order shows some size.
-use Rattle.std.specs.Prelude.{if◌then◌else◌, Option}
+use Rattle.std.specs.Prelude.{if◌then◌else◌}
 use mathlib.Core.Path.{◌∙◌, ◌≡◌, ap, refl, subst, sym}
 use mathlib.Core.Bool.{Bool, false, false≢true, true}
 use mathlib.Core.Logic.{◌⊎◌, inl, inr}
@@ -11,7 +11,7 @@ use borrow.Author.Tests.{leb-true, ltb-false}
 use Rattle.rules.specs.declared.Legging.{Legging}
 use Rattle.rules.specs.declared.Regular.{Regular}
 use Rattle.rules.specs.declared.Venue.{Venue}
-use Rattle.rules.specs.declared.Cause.{Cause}
+use Rattle.rules.specs.declared.Verdict.{Verdict}
 use Rattle.rules.specs.Base.{held}
 use Rattle.rules.specs.Words.{is_price, legging_at, no_legging, place_of, regular_at, with_complex, with_legging, with_regular, within}
 use Rattle.rules.specs.Prices.{best_in, best_own, best_regular, better, better_of, own_price, rests_at}
@@ -65,7 +65,7 @@ pub below-refl : (v : Venue) → Below v v
 unfolding SameOrGone
 below-refl v = record { regulars = λ n. lesser-refl _; leggings = λ n. inl refl }
 
-below-gone : (v : Venue) (f : ℕ → Legging → Option Cause) (w : Venue) → Below v w → Below v (remove f w).venue
+below-gone : (v : Venue) (f : ℕ → Legging → Verdict) (w : Venue) → Below v w → Below v (remove f w).venue
 unfolding remove with_legging SameOrGone
 below-gone v f w b = record { regulars = b.regulars; leggings = λ n. go n (stayers-kept f 0 w.legging n) (b.leggings n) }
   where

@@ -1,6 +1,5 @@
 -- What effects write, upon any venue: what holds of every record but answers, 67, 70 and 72, holds of all that they write but in generation and crossing.
 -- And no effect writes an answer: the only one is the message's own.
-use Rattle.std.specs.Prelude.{Option}
 use mathlib.Core.List.{List}
 use Prim.Native.Nat.{ℕ}
 use lib.IntN.{ℤ}
@@ -10,6 +9,7 @@ use Rattle.rules.specs.declared.Venue.{Venue}
 use Rattle.rules.specs.declared.Message.{Message}
 use Rattle.rules.specs.declared.Message.TheVariants.{Order, TwoLeg, Cancel, Away, Status, Sweep, Increment, Percent, LimitedSweep}
 use Rattle.rules.specs.declared.Cause.{Cause}
+use Rattle.rules.specs.declared.Verdict.{Verdict}
 use Rattle.rules.specs.Records.{Report, answer, trade, pair, generated, removed, crossed, cancelled, looked}
 use Rattle.rules.specs.Effects.{Effect, nothing, report, ◌⟫◌, Turn, repeat}
 use Rattle.rules.specs.Removal.{remove, remove_of}
@@ -55,7 +55,7 @@ module _ (P : Report → Type 0) (others : Others P) where
   all-each_of f ok places v = told-each_of P (λ _. Unit {0}) f places (λ i _ w _. (ok i w, tt)) v tt
 
   -- Everything but generation and crossing
-  pub all_remove : (f : ℕ → Legging → Option Cause) (v : Venue) → All P (remove f v)
+  pub all_remove : (f : ℕ → Legging → Verdict) (v : Venue) → All P (remove f v)
   all_remove = told-remove P others.removals
 
   pub all-remove_of : (id : ℕ) (c : Cause) (v : Venue) → All P (remove_of id c v)

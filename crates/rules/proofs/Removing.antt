@@ -1,5 +1,5 @@
 -- Removal of legging orders: how many places there are, and what stays when a parent's orders go.
-use Rattle.std.specs.Prelude.{if◌then◌else◌, None, Option, Some}
+use Rattle.std.specs.Prelude.{if◌then◌else◌}
 use mathlib.Core.Path.{◌∙◌, ◌≡◌, ap, refl, sym}
 use mathlib.Core.Bool.{Bool, false, false≢true, true, true≢false}
 use mathlib.Core.Logic.{◌≢◌}
@@ -10,11 +10,13 @@ use lib.ListN.{get_or, length}
 use borrow.Author.Tests.{eqb-false}
 use Rattle.rules.specs.declared.Cause.{Cause}
 use Rattle.rules.specs.declared.Legging.{Legging}
+use Rattle.rules.specs.declared.Verdict.{Verdict}
+use Rattle.rules.specs.declared.Verdict.TheVariants.{Fails, Stands}
 use Rattle.rules.specs.Base.{held}
 use Rattle.rules.specs.Words.{no_legging}
 use Rattle.rules.specs.Removal.{fail_if, stay, stayers}
 
-pub length-stayers : (f : ℕ → Legging → Option Cause) (n : ℕ) (ls : List Legging) → length (stayers f n ls) ≡ length ls
+pub length-stayers : (f : ℕ → Legging → Verdict) (n : ℕ) (ls : List Legging) → length (stayers f n ls) ≡ length ls
 unfolding stayers
 length-stayers f n [] = refl
 length-stayers f n (l ∷ ls) = ap suc (length-stayers f (suc n) ls)
@@ -34,7 +36,7 @@ stay_of id c n [] i t = absurd (false≢true t)
 stay_of id c n (l ∷ ls) zero t = go (eqb l.parent id) refl t
   where
     go : (b : Bool) → eqb l.parent id ≡ b →
-        held (stay (if b then Some c else None) l).quantity ≡ true → (stay (if b then Some c else None) l ≡ l) × ((stay (if b then Some c else None) l).parent ≢ id)
+        held (stay (if b then Fails c else Stands) l).quantity ≡ true → (stay (if b then Fails c else Stands) l ≡ l) × ((stay (if b then Fails c else Stands) l).parent ≢ id)
     go true e t = gone-free l t
     go false e t = (refl, eqb-false l.parent id e)
 stay_of id c n (l ∷ ls) (suc i) t = stay_of id c (suc n) ls i t

@@ -1,5 +1,5 @@
 -- Removing legging orders keeps the test of those that stay.
-use Rattle.std.specs.Prelude.{if◌then◌else◌, None, Option, Some}
+use Rattle.std.specs.Prelude.{if◌then◌else◌}
 use mathlib.Core.Path.{◌≡◌, refl, sym, ◌∙◌}
 use mathlib.Core.Bool.{Bool, true, false, false≢true}
 use mathlib.Core.List.{List, [], ◌∷◌}
@@ -12,7 +12,8 @@ use lib.ListN.{get_or}
 use Rattle.rules.specs.declared.Complex.{Complex}
 use Rattle.rules.specs.declared.Legging.{Legging}
 use Rattle.rules.specs.declared.Venue.{Venue}
-use Rattle.rules.specs.declared.Cause.{Cause}
+use Rattle.rules.specs.declared.Verdict.{Verdict}
+use Rattle.rules.specs.declared.Verdict.TheVariants.{Stands, Fails}
 use Rattle.rules.proofs.Verdicts.{passed, passing}
 use Rattle.rules.proofs.Tests.{and_l, if-same}
 use Rattle.rules.specs.Base.{held}
@@ -26,16 +27,16 @@ use Rattle.rules.specs.Standing.{parent_of, both_open, displayed_no_worse, pairs
 unfoldable pub SameOrGone : Legging → Legging → Type 0
 SameOrGone l m = (l ≡ m) ⊎ (l ≡ no_legging)
 
-stay-kept : (x : Option Cause) (l : Legging) → SameOrGone (stay x l) l
+stay-kept : (x : Verdict) (l : Legging) → SameOrGone (stay x l) l
 unfolding SameOrGone stay
-stay-kept None l = inl refl
-stay-kept (Some c) l = go (held l.quantity)
+stay-kept Stands l = inl refl
+stay-kept (Fails c) l = go (held l.quantity)
   where
     go : (b : Bool) → ((if b then no_legging else l) ≡ l) ⊎ ((if b then no_legging else l) ≡ no_legging)
     go true = inr refl
     go false = inl refl
 
-pub stayers-kept : (f : ℕ → Legging → Option Cause) (n : ℕ) (ls : List Legging) (i : ℕ) → SameOrGone (get_or (stayers f n ls) i no_legging) (get_or ls i no_legging)
+pub stayers-kept : (f : ℕ → Legging → Verdict) (n : ℕ) (ls : List Legging) (i : ℕ) → SameOrGone (get_or (stayers f n ls) i no_legging) (get_or ls i no_legging)
 unfolding SameOrGone stayers
 stayers-kept f n [] i = inl refl
 stayers-kept f n (l ∷ ls) zero = stay-kept (f n l) l
@@ -54,7 +55,7 @@ pub record Thinned (v w : Venue) : Type 0 where
   pub editions : w.editions ≡ v.editions
   pub legging : (i : ℕ) → SameOrGone (get_or w.legging i no_legging) (get_or v.legging i no_legging)
 
-remove-thins : (f : ℕ → Legging → Option Cause) (v : Venue) → Thinned v (remove f v).venue
+remove-thins : (f : ℕ → Legging → Verdict) (v : Venue) → Thinned v (remove f v).venue
 unfolding remove with_legging
 remove-thins f v = record { regular = refl; complex = refl; series = refl; editions = refl; legging = stayers-kept f 0 v.legging }
 
@@ -108,7 +109,7 @@ module _ {v w : Venue} (t : Thinned v w) where
   pairs-kept c s d p k h =
       rw (clear_kept (other_leg c s).series (opposite (other_leg c s).side) (and_l _ _ (and_l _ _ h)), size-kept) h
 
-  verdict_of-kept : (c : Complex) (s d : ℕ) (l : Legging) → verdict_of v c s d l ≡ None → verdict_of w c s d l ≡ None
+  verdict_of-kept : (c : Complex) (s d : ℕ) (l : Legging) → verdict_of v c s d l ≡ Stands → verdict_of w c s d l ≡ Stands
   verdict_of-kept c s d l h =
       let p = passed h in
       passing (record {
@@ -118,43 +119,43 @@ module _ {v w : Venue} (t : Thinned v w) where
         opens = rw open_kept p.opens;
       })
 
-  pub verdict-kept : (n : ℕ) (l : Legging) → verdict v n l ≡ None → verdict w n l ≡ None
+  pub verdict-kept : (n : ℕ) (l : Legging) → verdict v n l ≡ Stands → verdict w n l ≡ Stands
   unfolding verdict
   verdict-kept n l = go (held l.quantity)
     where
       go : (b : Bool) →
-          (if b then verdict_of v (parent_of v l) (n / 2) (n % 2) l else None) ≡ None →
-          (if b then verdict_of w (parent_of w l) (n / 2) (n % 2) l else None) ≡ None
+          (if b then verdict_of v (parent_of v l) (n / 2) (n % 2) l else Stands) ≡ Stands →
+          (if b then verdict_of w (parent_of w l) (n / 2) (n % 2) l else Stands) ≡ Stands
       go true h = rw parent-kept (verdict_of-kept _ _ _ _ h)
       go false h = refl
 
 -- settling: what passes its test before the failing ones go passes it after
-pub settle-keeps : (v : Venue) (n : ℕ) (l : Legging) → verdict (show_again v) n l ≡ None → verdict (settle v).venue n l ≡ None
+pub settle-keeps : (v : Venue) (n : ℕ) (l : Legging) → verdict (show_again v) n l ≡ Stands → verdict (settle v).venue n l ≡ Stands
 unfolding settle
 settle-keeps v = verdict-kept (remove-thins (verdict (show_again v)) (show_again v))
 
 -- a free place has nothing to fail
-pub free-stands : (w : Venue) (n : ℕ) (l : Legging) → held l.quantity ≡ false → verdict w n l ≡ None
+pub free-stands : (w : Venue) (n : ℕ) (l : Legging) → held l.quantity ≡ false → verdict w n l ≡ Stands
 unfolding verdict
 free-stands w n l e = rw e
 
 -- and after settling every legging order passes its test
-module _ (v w : Venue) (kept : (n : ℕ) (l : Legging) → verdict v n l ≡ None → verdict w n l ≡ None) where
-  stay-stands : (n : ℕ) (l : Legging) → verdict w n (stay (verdict v n l) l) ≡ None
+module _ (v w : Venue) (kept : (n : ℕ) (l : Legging) → verdict v n l ≡ Stands → verdict w n l ≡ Stands) where
+  stay-stands : (n : ℕ) (l : Legging) → verdict w n (stay (verdict v n l) l) ≡ Stands
   unfolding stay
   stay-stands n l = go (verdict v n l) refl (held l.quantity) refl
     where
-      go : (x : Option Cause) → verdict v n l ≡ x → (b : Bool) → held l.quantity ≡ b → verdict w n (stay x l) ≡ None
-      go None e b q = kept n l e
-      go (Some c) e true q = rw q (free-stands w n no_legging refl)
-      go (Some c) e false q = rw q (free-stands w n l q)
+      go : (x : Verdict) → verdict v n l ≡ x → (b : Bool) → held l.quantity ≡ b → verdict w n (stay x l) ≡ Stands
+      go Stands e b q = kept n l e
+      go (Fails c) e true q = rw q (free-stands w n no_legging refl)
+      go (Fails c) e false q = rw q (free-stands w n l q)
 
-  stayers-stand : (n : ℕ) (ls : List Legging) (i : ℕ) → verdict w (n + i) (get_or (stayers (verdict v) n ls) i no_legging) ≡ None
+  stayers-stand : (n : ℕ) (ls : List Legging) (i : ℕ) → verdict w (n + i) (get_or (stayers (verdict v) n ls) i no_legging) ≡ Stands
   unfolding stayers
   stayers-stand n [] i = free-stands w (n + i) no_legging refl
   stayers-stand n (l ∷ ls) zero = rw add-zero (stay-stands n l)
   stayers-stand n (l ∷ ls) (suc i) = rw (add-suc, ← suc-add) (stayers-stand (suc n) ls i)
 
-pub settle-stands : (v : Venue) (i : ℕ) → verdict (settle v).venue i (get_or (settle v).venue.legging i no_legging) ≡ None
+pub settle-stands : (v : Venue) (i : ℕ) → verdict (settle v).venue i (get_or (settle v).venue.legging i no_legging) ≡ Stands
 unfolding settle remove with_legging
 settle-stands v i = rw zero-add at (stayers-stand (show_again v) (settle v).venue (settle-keeps v) 0 (show_again v).legging i)

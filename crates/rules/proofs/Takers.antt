@@ -1,6 +1,5 @@
 -- Who writes: whatever holds of the trades, pairs and crosses of one taker, and of removals, holds of all that is written when this taker is worked; whatever
 -- holds of the 67 of one complex order, of all that its generation writes. And of orders at places one after another.
-use Rattle.std.specs.Prelude.{Option}
 use mathlib.Core.Path.{refl, subst, sym}
 use mathlib.Core.Bool.{◌&&◌}
 use mathlib.Core.List.{List, Memᴰ, [], ◌∷◌}
@@ -10,6 +9,7 @@ use Rattle.rules.specs.declared.Cause.{Cause}
 use Rattle.rules.specs.declared.Complex.{Complex}
 use Rattle.rules.specs.declared.Legging.{Legging}
 use Rattle.rules.specs.declared.Venue.{Venue}
+use Rattle.rules.specs.declared.Verdict.{Verdict}
 use Rattle.rules.specs.Base.{held}
 use Rattle.rules.specs.Words.{complex_at, with_legging, with_regular}
 use Rattle.rules.specs.Records.{ForAll, Report, crossed, generated, pair, removed, trade}
@@ -73,7 +73,7 @@ module _ (P : Report → Type 0) where
     removals-told none = tt
     removals-told (next m h p c r) = (gone _ _ _ c, removals-told r)
 
-    pub told-remove : (f : ℕ → Legging → Option Cause) (v : Venue) → All P (remove f v)
+    pub told-remove : (f : ℕ → Legging → Verdict) (v : Venue) → All P (remove f v)
     told-remove f v = removals-told (removed-by-place f v)
 
     -- Generation, of the order at place i

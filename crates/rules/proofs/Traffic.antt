@@ -1,6 +1,6 @@
 -- Traffic: what a message generates in a series is counted there, each under the ceiling; the counts keep their length and do not fall; and the id
 -- that a limited sweep reached is at most the last.
-use Rattle.std.specs.Prelude.{if◌then◌else◌, Option}
+use Rattle.std.specs.Prelude.{if◌then◌else◌}
 use mathlib.Core.Path.{◌∙◌, ◌≡◌, ap, refl, subst, sym}
 use mathlib.Core.Bool.{Bool, ◌&&◌, false, not, true}
 use mathlib.Core.List.{List, [], ◌++◌, ◌∷◌}
@@ -18,7 +18,7 @@ use Rattle.rules.specs.declared.Legging.{Legging}
 use Rattle.rules.specs.declared.Message.{Message}
 use Rattle.rules.specs.declared.Message.TheVariants.{Away, Cancel, Increment, LimitedSweep, Order, Percent, Status, Sweep, TwoLeg}
 use Rattle.rules.specs.declared.Venue.{Venue}
-use Rattle.rules.specs.declared.Cause.{Cause}
+use Rattle.rules.specs.declared.Verdict.{Verdict}
 use Rattle.rules.specs.declared.Cause.TheVariants.{Replaced}
 use Rattle.rules.specs.Base.{all, held, keep}
 use Rattle.rules.specs.Words.{complex_at, no_complex, no_generations, place_of, with_complex, with_editions, with_generations, with_last, with_legging, with_reached, with_regular, with_series}
@@ -142,18 +142,18 @@ unfolding generations_of
 of-counts w v s e = rw e
 
 -- removals leave the counts
-gone-counts : (f : ℕ → Legging → Option Cause) (v : Venue) → (remove f v).venue.generations ≡ v.generations
+gone-counts : (f : ℕ → Legging → Verdict) (v : Venue) → (remove f v).venue.generations ≡ v.generations
 unfolding remove with_legging
 gone-counts f v = refl
 
 tracks-make : (n : ℕ) (c : Complex) (s d : ℕ) (v : Venue) → makes n v c s d ≡ true → Tracks n v (make n c s d v)
 unfolding make
 tracks-make n c s d v h =
-    let f : ℕ → Legging → Option Cause = λ m _. fail_if (eqb m (place_of s d)) Replaced in
+    let f : ℕ → Legging → Verdict = λ m _. fail_if (eqb m (place_of s d)) Replaced in
     tracks-then n v _ _ (tracks-still n v (remove f v) (all_remove Plain plain f v) (gone-counts f v))
     (tracks-one n s _ d _ _ _ _ _ (remove f v).venue (subst (λ g. under_ceiling n g ≡ true) (sym (same f)) (made h).ceiling))
   where
-    same : (f : ℕ → Legging → Option Cause) → generations_of (remove f v).venue s ≡ generations_of v s
+    same : (f : ℕ → Legging → Verdict) → generations_of (remove f v).venue s ≡ generations_of v s
     same f = of-counts (remove f v).venue v s (gone-counts f v)
 
 tracks-leg : (n : ℕ) (c : Complex) (s d : ℕ) (v : Venue) → Tracks n v (generate_leg n c s d v)

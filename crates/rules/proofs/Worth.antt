@@ -1,6 +1,6 @@
 -- What a venue is worth: the bytes that the going of its orders still pays for. A regular order pays a when what it shows is gone, and b when all of it is:
 -- the rates differ by what is done. An effect costs c where what it writes and what the venue left is worth come to at most what the venue was worth and c more.
-use Rattle.std.specs.Prelude.{if◌then◌else◌, None, Option, Some}
+use Rattle.std.specs.Prelude.{if◌then◌else◌}
 use mathlib.Core.Path.{◌∙◌, ◌≡◌, refl, sym}
 use mathlib.Core.Bool.{Bool, true, false, ◌&&◌}
 use mathlib.Core.List.{List, [], ◌∷◌, map}
@@ -14,7 +14,8 @@ use Rattle.rules.specs.declared.Regular.{Regular}
 use Rattle.rules.specs.declared.Complex.{Complex}
 use Rattle.rules.specs.declared.Legging.{Legging}
 use Rattle.rules.specs.declared.Venue.{Venue}
-use Rattle.rules.specs.declared.Cause.{Cause}
+use Rattle.rules.specs.declared.Verdict.{Verdict}
+use Rattle.rules.specs.declared.Verdict.TheVariants.{Stands, Fails}
 use Rattle.rules.specs.Base.{held}
 use Rattle.rules.specs.Words.{no_regular, no_complex, no_legging, regular_at, complex_at, one_to_one, with_regular, with_complex, with_legging}
 use Rattle.rules.specs.Bytes.{bytes, framed}
@@ -238,17 +239,17 @@ module _ (a b : ℕ) where
   spent-then e f = rw (total-then record_length e f) (unfold ◌⟫◌ in (omega arith))
 
 -- a removal pays for itself
-goes-pays : (n : ℕ) (x : Option Cause) (l : Legging) → total record_length (goes n x l) + of_legging (stay x l) ≡ of_legging l
+goes-pays : (n : ℕ) (x : Verdict) (l : Legging) → total record_length (goes n x l) + of_legging (stay x l) ≡ of_legging l
 unfolding goes stay total record_length of_legging due
-goes-pays n None l = omega arith
-goes-pays n (Some c) l = go (held l.quantity) refl
+goes-pays n Stands l = omega arith
+goes-pays n (Fails c) l = go (held l.quantity) refl
   where
     go : (b : Bool) → held l.quantity ≡ b →
         total record_length (if b then removed l.parent (n / 2) (n % 2) c ∷ [] else []) + (if held (if b then no_legging else l).quantity then per_legging else 0) ≡ (if b then per_legging else 0)
     go true e = refl
     go false e = rw e
 
-leavers-pay : (f : ℕ → Legging → Option Cause) (n : ℕ) (ls : List Legging) → total record_length (leavers f n ls) + sum of_legging (stayers f n ls) ≡ sum of_legging ls
+leavers-pay : (f : ℕ → Legging → Verdict) (n : ℕ) (ls : List Legging) → total record_length (leavers f n ls) + sum of_legging (stayers f n ls) ≡ sum of_legging ls
 unfolding leavers stayers sum total
 leavers-pay f n [] = refl
 leavers-pay f n (l ∷ ls) =
@@ -256,7 +257,7 @@ leavers-pay f n (l ∷ ls) =
     let b = leavers-pay f (suc n) ls in
     rw (total-append record_length (goes n (f n l) l) (leavers f (suc n) ls)) (omega arith)
 
-pub spent-remove : (a b : ℕ) (f : ℕ → Legging → Option Cause) (v : Venue) → spent a b (remove f v) ≡ worth a b v
+pub spent-remove : (a b : ℕ) (f : ℕ → Legging → Verdict) (v : Venue) → spent a b (remove f v) ≡ worth a b v
 unfolding spent remove worth with_legging
 spent-remove a b f v = let z = leavers-pay f 0 v.legging in omega arith
 

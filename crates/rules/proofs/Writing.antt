@@ -1,5 +1,5 @@
 -- What each effect writes: records that fit their widths, and the fields stay in range. Nothing is asked of the venue but that.
-use Rattle.std.specs.Prelude.{if◌then◌else◌, None, Option, Some}
+use Rattle.std.specs.Prelude.{if◌then◌else◌}
 use mathlib.Core.Path.{◌≡◌, subst, sym}
 use mathlib.Core.Bool.{Bool, ◌&&◌, false, true}
 use mathlib.Core.Logic.{◌⊎◌, inl, inr}
@@ -19,6 +19,8 @@ use Rattle.rules.specs.declared.Legging.{Legging}
 use Rattle.rules.specs.declared.Message.{Message}
 use Rattle.rules.specs.declared.Message.TheVariants.{Away, Cancel, Increment, LimitedSweep, Order, Percent, Status, Sweep, TwoLeg}
 use Rattle.rules.specs.declared.Venue.{Venue}
+use Rattle.rules.specs.declared.Verdict.{Verdict}
+use Rattle.rules.specs.declared.Verdict.TheVariants.{Fails, Stands}
 use Rattle.rules.specs.Base.{held}
 use Rattle.rules.specs.Words.{complex_at, is_complex_of, legging_at, no_complex, no_legging, opposite, regular_at, with_legging, within}
 use Rattle.rules.specs.Settings.{increment}
@@ -68,23 +70,23 @@ writes_then e f a b =
 
 -- Removals ------------------------------------------------------------------------------------
 
-goes-fit : (n : ℕ) (x : Option Cause) (l : Legging) → n < 512 → LgFits l → ForAll Fits (goes n x l)
+goes-fit : (n : ℕ) (x : Verdict) (l : Legging) → n < 512 → LgFits l → ForAll Fits (goes n x l)
 unfolding goes
-goes-fit n None l s h = tt
-goes-fit n (Some c) l s h = go (held l.quantity)
+goes-fit n Stands l s h = tt
+goes-fit n (Fails c) l s h = go (held l.quantity)
   where
     go : (b : Bool) → ForAll Fits (if b then removed l.parent (n / 2) (n % 2) c ∷ [] else [])
     go true = ((h.parent, omega arith, omega arith), tt)
     go false = tt
 
-leavers-fit : (f : ℕ → Legging → Option Cause) (n : ℕ) (ls : List Legging) → n + length ls ≤ 512 → ((i : ℕ) → LgFits (get_or ls i no_legging)) → ForAll Fits (leavers f n ls)
+leavers-fit : (f : ℕ → Legging → Verdict) (n : ℕ) (ls : List Legging) → n + length ls ≤ 512 → ((i : ℕ) → LgFits (get_or ls i no_legging)) → ForAll Fits (leavers f n ls)
 unfolding leavers
 leavers-fit f n [] s h = tt
 leavers-fit f n (l ∷ ls) s h =
     each_append Fits (goes n (f n l) l) (leavers f (suc n) ls) (goes-fit n (f n l) l (omega arith) (h 0))
     (leavers-fit f (suc n) ls (omega arith) (λ i. h (suc i)))
 
-pub writes-remove : (f : ℕ → Legging → Option Cause) (v : Venue) → Ranged v → Writes (remove f v)
+pub writes-remove : (f : ℕ → Legging → Verdict) (v : Venue) → Ranged v → Writes (remove f v)
 unfolding remove with_legging SameOrGone
 writes-remove f v r = record {
   fits = leavers-fit f 0 v.legging (let z = r.len in omega arith) r.legging;

@@ -1,13 +1,14 @@
 -- Document 01, "Standing test and settling".
-use Rattle.std.specs.Prelude.{Bool, true, false, not, ◌&&◌, ◌||◌, List, [], ◌∷◌, map, ℕ, ◌-◌, ◌/◌, ◌%◌, leb, eqb, ℤ, pos, ◌+ℤ◌, if◌then◌else◌, None, Option, Some}
+use Rattle.std.specs.Prelude.{Bool, true, false, not, ◌&&◌, ◌||◌, List, [], ◌∷◌, map, ℕ, ◌-◌, ◌/◌, ◌%◌, leb, eqb, ℤ, pos, ◌+ℤ◌, if◌then◌else◌}
 use Rattle.std.specs.Int.Signed.{le_z}
 use Rattle.rules.specs.declared.Regular.{Regular}
 use Rattle.rules.specs.declared.Complex.{Complex}
 use Rattle.rules.specs.declared.Legging.{Legging}
 use Rattle.rules.specs.declared.Leg.{Leg}
 use Rattle.rules.specs.declared.Venue.{Venue}
-use Rattle.rules.specs.declared.Cause.{Cause}
 use Rattle.rules.specs.declared.Cause.TheVariants.{Worse, Unpaired, OutOfBand, NotOpen}
+use Rattle.rules.specs.declared.Verdict.{Verdict}
+use Rattle.rules.specs.declared.Verdict.TheVariants.{Stands, Fails}
 use Rattle.rules.specs.Base.{held}
 use Rattle.rules.specs.Words.{opposite, sign_times, opened, status_of, no_complex, is_complex_of, with_regular}
 use Rattle.rules.specs.Settings.{increment}
@@ -68,29 +69,27 @@ pairs v c s d p k =
     && leb k (other_size v c s)
 
 -- The test of a legging order l of c at side d of series s. 01: "failures go together, with the lowest cause that applies". Request (a)
--- of 02 overtakes the rank: "Cause 5 now comes before cause 2; the order is 1, 5, 2, 6." "N is in band (else 5)"; (C)(4)(v). Some c: it
--- fails, and c is the first cause that applies. None: no cause applies, and it stands.
-unfoldable pub verdict_of : Venue → Complex → (series side : ℕ) → Legging → Option Cause
+-- of 02 overtakes the rank: "Cause 5 now comes before cause 2; the order is 1, 5, 2, 6." "N is in band (else 5)"; (C)(4)(v)
+unfoldable pub verdict_of : Venue → Complex → (series side : ℕ) → Legging → Verdict
 verdict_of v c s d l =
-    if not (displayed_no_worse v s d l.price) then Some Worse
-    else if not (in_band v c c.limit) then Some OutOfBand
-    else if not (pairs v c s d l.price l.quantity) then Some Unpaired
-    else if not (both_open v c) then Some NotOpen
-    else None
+    if not (displayed_no_worse v s d l.price) then Fails Worse
+    else if not (in_band v c c.limit) then Fails OutOfBand
+    else if not (pairs v c s d l.price l.quantity) then Fails Unpaired
+    else if not (both_open v c) then Fails NotOpen
+    else Stands
 
--- the test of the legging order l at place n: the cause for which it fails, None where it stands; a free place stands
-unfoldable pub verdict : Venue → (place : ℕ) → Legging → Option Cause
-verdict v n l = if held l.quantity then verdict_of v (parent_of v l) (n / 2) (n % 2) l else None
+-- the test of what stands at place n
+unfoldable pub verdict : Venue → (place : ℕ) → Legging → Verdict
+verdict v n l = if held l.quantity then verdict_of v (parent_of v l) (n / 2) (n % 2) l else Stands
 
--- the number of what a test says: 0 where the order stands, else the number of the cause for which it fails
-abbrev pub verdict_number : Option Cause → ℕ
-verdict_number None = 0
-verdict_number (Some c) = cause_number c
+-- the number of a verdict: 0, or its cause's
+abbrev pub verdict_number : Verdict → ℕ
+verdict_number Stands = 0
+verdict_number (Fails c) = cause_number c
 
--- a test that names no cause lets the order stand
-unfoldable pub stands : Option Cause → Bool
-stands None = true
-stands (Some c) = false
+unfoldable pub stands : Verdict → Bool
+stands Stands = true
+stands (Fails c) = false
 
 -- Settling ------------------------------------------------------------------------------------
 

@@ -131,8 +131,7 @@ pub enum Refusal {
     EqualRatios,
 }
 
-// Why a legging order goes, in the order of the filing's (C)(4)(i) to (x). The test of a legging order tells the cause for which it fails, and None where it
-// stands.
+// Why a legging order goes, in the order of the filing's (C)(4)(i) to (x).
 #[derive(Clone, Copy, Debug, PartialEq, Eq)]
 pub enum Cause {
     Worse,
@@ -144,6 +143,13 @@ pub enum Cause {
     Replaced,
     Touched,
     NoUnit,
+}
+
+// What a test says of a legging order. Document 01 names this form, so it is no Option of a cause.
+#[derive(Clone, Copy, Debug, PartialEq, Eq)]
+pub enum Verdict {
+    Stands,
+    Fails(Cause),
 }
 
 // Free places (specs/Words.antt has the same names) ----------------------------------------------

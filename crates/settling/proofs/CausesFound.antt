@@ -1,5 +1,4 @@
 -- Laws of the loops over the legging places: their causes, and whether the others stand.
-use Rattle.std.specs.Prelude.{not, is_some, None, Option, Some}
 use mathlib.Core.Path.{◌≡◌, refl, sym, ap, ◌∙◌}
 use mathlib.Core.Bool.{Bool, true, false, ◌&&◌, ◌||◌}
 use mathlib.Core.List.{List}
@@ -11,6 +10,8 @@ use borrow.Author.Tests.{eq-eqb, ne_eqb}
 use lib.Dec.{eqb}
 use lib.ListN.{get_or}
 use Rattle.rules.specs.declared.Legging.{Legging}
+use Rattle.rules.specs.declared.Verdict.{Verdict}
+use Rattle.rules.specs.declared.Verdict.TheVariants.{Stands, Fails}
 use Rattle.rules.specs.declared.Cause.{Cause}
 use Rattle.rules.specs.declared.Cause.TheVariants.{Worse, Unpaired, Executed, Withdrawn, OutOfBand, NotOpen, Replaced, Touched, NoUnit}
 use Rattle.rules.specs.Words.{no_legging}
@@ -24,17 +25,17 @@ use Rattle.settling.proofs.PartsLaws.{verdict-free}
 
 -- Causes ---------------------------------------------------------------------------------------
 
-pub number_small : (x : Option Cause) → verdict_number x < 16
-number_small None = omega arith
-number_small (Some Worse) = omega arith
-number_small (Some Unpaired) = omega arith
-number_small (Some Executed) = omega arith
-number_small (Some Withdrawn) = omega arith
-number_small (Some OutOfBand) = omega arith
-number_small (Some NotOpen) = omega arith
-number_small (Some Replaced) = omega arith
-number_small (Some Touched) = omega arith
-number_small (Some NoUnit) = omega arith
+pub number_small : (x : Verdict) → verdict_number x < 16
+number_small Stands = omega arith
+number_small (Fails Worse) = omega arith
+number_small (Fails Unpaired) = omega arith
+number_small (Fails Executed) = omega arith
+number_small (Fails Withdrawn) = omega arith
+number_small (Fails OutOfBand) = omega arith
+number_small (Fails NotOpen) = omega arith
+number_small (Fails Replaced) = omega arith
+number_small (Fails Touched) = omega arith
+number_small (Fails NoUnit) = omega arith
 
 -- a number put below the causes is that of place 0, and the others move on by one place
 module _ (causes x : ℕ) (h : x < 16) where
@@ -80,7 +81,7 @@ module _ (b : List ℕ) (causes n : ℕ) (i : CausesFrom b causes n) (p : 0 < n)
       let z : causes * 16 + 0 ≡ causes * 16 = omega arith in
       rw z at (causes-by 0 (omega arith) (ap verdict_number (verdict-free (venue_of b) (n - 1) l (legging_in b (n - 1)) el q)))
 
-  pub causes-on : (x : ℕ) (r : Option Cause) → x ≡ verdict_number r → r ≡ verdict (venue_of b) (n - 1) (get_or (venue_of b).legging (n - 1) no_legging) → CausesFrom b (causes * 16 + x) (n - 1)
+  pub causes-on : (x : ℕ) (r : Verdict) → x ≡ verdict_number r → r ≡ verdict (venue_of b) (n - 1) (get_or (venue_of b).legging (n - 1) no_legging) → CausesFrom b (causes * 16 + x) (n - 1)
   causes-on x r ex er =
       causes-by x (omega (arith, number_small r)) (ex ∙ ap verdict_number (er ∙ ap (verdict (venue_of b) (n - 1)) (legging-at b (n - 1) (omega (arith, i.few)))))
 
@@ -90,12 +91,6 @@ module _ (b : List ℕ) (causes n : ℕ) (i : CausesFrom b causes n) (p : 0 < n)
 legging-scan : (b : List ℕ) → upto (legging_in b) 0 (16 - 0) ≡ (venue_of b).legging
 unfolding venue_of
 legging-scan b = refl
-
--- an order stands where its test names no cause
-stands-is : (x : Option Cause) → stands x ≡ not (is_some x)
-unfolding stands
-stands-is None = refl
-stands-is (Some c) = refl
 
 module _ (b : List ℕ) (m n : ℕ) where
   -- those from place n on
@@ -111,19 +106,21 @@ module _ (b : List ℕ) (m n : ℕ) where
   pub stand-own : n < 16 → n ≡ m → others_stand (venue_of b) m (n + 1) (upto (legging_in b) (n + 1) (16 - (n + 1))) ≡ stand_from
   stand-own h e = sym (stand-on h ∙ rw (eq-eqb n m e))
 
-  module _ (h : n < 16) (k : n ≡ m → ⊥) (x : Option Cause) (ex : x ≡ verdict (venue_of b) n (get_or (venue_of b).legging n no_legging)) where
+  module _ (h : n < 16) (k : n ≡ m → ⊥) (x : Verdict) (ex : x ≡ verdict (venue_of b) n (get_or (venue_of b).legging n no_legging)) where
     here : verdict (venue_of b) n (legging_in b n) ≡ x
     here = ap (verdict (venue_of b) n) (sym (legging-at b n h)) ∙ sym ex
 
-    pub stand-past : is_some x ≡ false → others_stand (venue_of b) m (n + 1) (upto (legging_in b) (n + 1) (16 - (n + 1))) ≡ stand_from
-    stand-past e = sym (stand-on h ∙ rw (ne_eqb n m k, here, stands-is x, e))
+    pub stand-past : x ≡ Stands → others_stand (venue_of b) m (n + 1) (upto (legging_in b) (n + 1) (16 - (n + 1))) ≡ stand_from
+    unfolding stands
+    stand-past e = sym (stand-on h ∙ rw (ne_eqb n m k, here, e))
 
-    pub stand-fails : is_some x ≡ true → false ≡ stand_from
-    stand-fails e = sym (stand-on h ∙ rw (ne_eqb n m k, here, stands-is x, e))
+    pub stand-fails : (c : Cause) → x ≡ Fails c → false ≡ stand_from
+    unfolding stands
+    stand-fails c e = sym (stand-on h ∙ rw (ne_eqb n m k, here, e))
 
   pub stand-free : n < 16 → (n ≡ m → ⊥) → (l : Legging) → l ≡ legging_in b n → l.quantity ≡ 0 →
       others_stand (venue_of b) m (n + 1) (upto (legging_in b) (n + 1) (16 - (n + 1))) ≡ stand_from
-  stand-free h k l el q = stand-past h k None (verdict-free (venue_of b) n l (get_or (venue_of b).legging n no_legging) (el ∙ sym (legging-at b n h)) q) refl
+  stand-free h k l el q = stand-past h k Stands (verdict-free (venue_of b) n l (get_or (venue_of b).legging n no_legging) (el ∙ sym (legging-at b n h)) q) refl
 
   pub stand-end : 16 ≤ n → true ≡ stand_from
   unfolding others_stand

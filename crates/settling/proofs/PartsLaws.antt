@@ -1,5 +1,5 @@
 -- Laws of the standing test, as the code makes it.
-use Rattle.std.specs.Prelude.{if◌then◌else◌, None, Option}
+use Rattle.std.specs.Prelude.{if◌then◌else◌}
 use mathlib.Core.Path.{◌≡◌, refl, sym, ap, ap₂, ◌∙◌}
 use mathlib.Core.Bool.{Bool, true, false, not, ◌&&◌, true≢false}
 use Prim.Native.Nat.{ℕ, ◌<◌, ◌/◌, ◌%◌}
@@ -12,7 +12,8 @@ use Rattle.rules.specs.declared.Complex.{Complex}
 use Rattle.rules.specs.declared.Legging.{Legging}
 use Rattle.rules.specs.declared.Leg.{Leg}
 use Rattle.rules.specs.declared.Venue.{Venue}
-use Rattle.rules.specs.declared.Cause.{Cause}
+use Rattle.rules.specs.declared.Verdict.{Verdict}
+use Rattle.rules.specs.declared.Verdict.TheVariants.{Stands}
 use Rattle.rules.specs.Words.{opposite, sign_times}
 use Rattle.rules.specs.Settings.{increment}
 use Rattle.rules.specs.Prices.{better, best_regular, displayed_price, clear_price, weighed}
@@ -105,11 +106,11 @@ module _ (v : Venue) (c : Complex) (s d p k x : ℕ) (ex : x ≡ other_clear v c
 
 -- The verdict ---------------------------------------------------------------------------------
 
-pub verdict-free : (v : Venue) (n : ℕ) (l m : Legging) → l ≡ m → l.quantity ≡ 0 → None ≡ verdict v n m
+pub verdict-free : (v : Venue) (n : ℕ) (l m : Legging) → l ≡ m → l.quantity ≡ 0 → Stands ≡ verdict v n m
 unfolding verdict
 verdict-free v n l m e h = rw (← e) (simp (eq-eqb _ _ h))
 
-pub verdict-held : (v : Venue) (n : ℕ) (l m : Legging) (c : Complex) (r : Option Cause) → l ≡ m → (l.quantity ≡ 0 → ⊥) → c ≡ parent_of v l →
+pub verdict-held : (v : Venue) (n : ℕ) (l m : Legging) (c : Complex) (r : Verdict) → l ≡ m → (l.quantity ≡ 0 → ⊥) → c ≡ parent_of v l →
     r ≡ verdict_of v c (n / 2) (n % 2) l → r ≡ verdict v n m
 unfolding verdict
 verdict-held v n l m c r e h ec q = rw (← e) (simp (ne_eqb _ _ h) (q ∙ ap (λ (z : Complex). verdict_of v z (n / 2) (n % 2) l) ec))

@@ -20,7 +20,7 @@ ghost use Rattle.places.specs.Requirements.{IncrementReady};
 use arithmetic::limit_of;
 use levels::{LegSides, TakenLevels};
 use places::{Level, Numbers};
-use rules::{Cause, Complex, Legging};
+use rules::{Cause, Complex, Legging, Verdict};
 
 // A price p at side d of series s, displayed.
 pub fn displayed_in_series(numbers: &Numbers, s: u8, d: u8, p: u32) -> u64
@@ -83,7 +83,7 @@ pub fn can_pair(numbers: &Numbers, taken: TakenLevels, c: Complex, s: u8, d: u8,
     false
 }
 
-// The test of a legging order of c at side d of series s: of the causes that apply, the first of 1, 5, 2, 6; None where it stands.
+// The test of a legging order of c at side d of series s: of the causes that apply, the first of 1, 5, 2, 6.
 pub fn test_order(
     numbers: &Numbers,
     sides: LegSides,
@@ -91,34 +91,34 @@ pub fn test_order(
     s: u8,
     d: u8,
     l: Legging,
-) -> Option<Cause>
+) -> Verdict
     requires { SidesReady numbers.now sides c s d }
     ensures { result ≡ verdict_of (venue_of numbers.now) c s d l }
 {
     if !displayed_no_worse(numbers, sides.own, s, d, l.price) {
-        return Some(Cause::Worse);
+        return Verdict::Fails(Cause::Worse);
     }
     let taken = sides.taken;
     if !prices::in_band(numbers, taken, c, limit_of(c)) {
-        return Some(Cause::OutOfBand);
+        return Verdict::Fails(Cause::OutOfBand);
     }
     if !can_pair(numbers, taken, c, s, d, l) {
-        return Some(Cause::Unpaired);
+        return Verdict::Fails(Cause::Unpaired);
     }
     if !prices::both_open(numbers, c) {
-        return Some(Cause::NotOpen);
+        return Verdict::Fails(Cause::NotOpen);
     }
-    None
+    Verdict::Stands
 }
 
-// The test of what stands at place n: the cause for which it fails, None where it stands.
-pub fn judge(numbers: &Numbers, g: [[Level; 2]; 8], n: usize) -> Option<Cause>
+// The test of what stands at place n.
+pub fn judge(numbers: &Numbers, g: [[Level; 2]; 8], n: usize) -> Verdict
     requires { GridPlaceReady numbers.now g n }
     ensures { result ≡ verdict (venue_of numbers.now) n (get_or (venue_of numbers.now).legging n no_legging) }
 {
     let l = places::legging_at(numbers, n);
     if l.quantity == 0 {
-        return None;
+        return Verdict::Stands;
     }
     let c = prices::parent_of(numbers, l);
     let s = (n / 2) as u8;
@@ -192,9 +192,9 @@ pub fn others_stand(numbers: &Numbers, g: [[Level; 2]; 8], m: usize) -> bool
         if l.quantity == 0 {
             continue;
         }
-        if judge(numbers, g, n).is_some() {
+        let Verdict::Stands = judge(numbers, g, n) else {
             return false;
-        }
+        };
     }
     true
 }

@@ -14,7 +14,7 @@ ghost use Rattle.levels.specs.Requirements.{GridReady, GridPlaceReady};
 ghost use Rattle.places.specs.Requirements.{IncrementReady, RightSeries};
 
 use places::{Level, Numbers};
-use rules::{Complex, Legging, Regular, Venue};
+use rules::{Complex, Legging, Regular, Venue, Verdict};
 
 // Orders beside one another -------------------------------------------------------------------
 
@@ -163,7 +163,10 @@ fn legging_sound(numbers: &Numbers, g: [[Level; 2]; 8], n: usize) -> bool
     if !has_home(numbers, l, (n / 2) as u8, (n % 2) as u8) {
         return false;
     }
-    settling::judge(numbers, g, n).is_none()
+    let Verdict::Stands = settling::judge(numbers, g, n) else {
+        return false;
+    };
+    true
 }
 
 // Every legging place is sound.

@@ -1,6 +1,6 @@
 -- Document 01, "Trials", but for the starred ones (rules Trials): the printed session, the wrongs named there, sessions for what these and the theorems
 -- leave open, and the sessions of requests.
-use Rattle.std.specs.Prelude.{true, false, ◌≡◌, refl, List, [], ◌∷◌, ◌++◌, map, ℕ, zero, suc, ◌+◌, ℤ, pos, neg_ℤ, set, drop, length, replicate, if◌then◌else◌, None, Some, Ok, Err}
+use Rattle.std.specs.Prelude.{true, false, ◌≡◌, refl, List, [], ◌∷◌, ◌++◌, map, ℕ, zero, suc, ◌+◌, ℤ, pos, neg_ℤ, set, drop, length, replicate, if◌then◌else◌, Ok, Err}
 use Rattle.std.proofs.Common.{sym, ap₂, ◌∙◌}
 use Rattle.std.proofs.lemmas.List.{map-append}
 use Rattle.rules.specs.declared.Regular.{Regular}
@@ -15,13 +15,15 @@ use Rattle.rules.specs.declared.Refusal.TheVariants.{WrongLength}
 use Rattle.rules.specs.declared.Message.{Message}
 use Rattle.rules.specs.declared.Message.TheVariants.{Order, TwoLeg, Cancel, Away, Status, Sweep, Increment, Percent, LimitedSweep}
 use Rattle.rules.specs.declared.Cause.TheVariants.{Worse, Unpaired, Executed, Withdrawn, OutOfBand, NotOpen, Replaced, Touched, NoUnit}
-use Rattle.rules.specs.Words.{buy, sell, closed, no_regular, no_complex, no_legging, not_listed, no_edition, fresh_venue, with_regular, with_complex, with_legging, with_series, with_editions, with_last, with_reached}
+use Rattle.rules.specs.declared.Verdict.TheVariants.{Stands, Fails}
+use Rattle.rules.specs.Words.{buy, sell, closed, opened, no_regular, no_complex, no_legging, not_listed, no_edition, fresh_venue, with_regular, with_complex, with_legging, with_series, with_editions, with_last, with_reached}
 use Rattle.rules.specs.Settings.{is_increment}
 use Rattle.rules.specs.Messages.{length_of, encode_message}
 use Rattle.rules.specs.Records.{Report, answer, trade, pair, generated, removed, crossed, cancelled, looked}
 use Rattle.rules.specs.Standing.{verdict_number}
 use Rattle.rules.specs.Refusals.{decoded_number}
 use Rattle.rules.specs.Step.{set_away, set_status}
+use Rattle.rules.specs.Calls.{run, one, settings}
 use Rattle.rules.specs.Sums.{total, contracts, contracts_at, paired, crossed_for, cancelled_of, generated_of, open_regular, open_complex}
 use Rattle.rules.specs.Opened.{opened-rules}
 use Rattle.rules.specs.Trials.{Trial, session, upon, next, onward, band, ranged, taken, told, counted, inforce, open1, legs_up, single, rest, both, by_ratios, leg, resting, numbering, busy, legged_venue, outcome, expected, minus, opens, closes, enters, reserves, pair_up, buys_both, cancels, sweeps, opening, accepted, away_added, starred, two_leg, legged, legged_sheet, quotes, bidding, asked, tried, starred-hold}
@@ -952,7 +954,7 @@ numbers =
     -- no length where there is no such kind
     ∷ counted (length_of 0) 0 ∷ counted (length_of 12) 0
     -- the numbers of answers that are enums
-    ∷ counted (verdict_number None) 0 ∷ counted (verdict_number (Some NotOpen)) 6 ∷ counted (verdict_number (Some NoUnit)) 10 ∷ counted (decoded_number (Ok Sweep)) 0 ∷ counted (decoded_number (Err 3)) 3
+    ∷ counted (verdict_number Stands) 0 ∷ counted (verdict_number (Fails NotOpen)) 6 ∷ counted (verdict_number (Fails NoUnit)) 10 ∷ counted (decoded_number (Ok Sweep)) 0 ∷ counted (decoded_number (Err 3)) 3
     -- "contracts in a series from that series' 65, as taker or maker; pairs, or paired, from 66; crossed from 70, as taker or maker; cancelled from 71"
     ∷ counted (total (contracts 3 0) named) 12 ∷ counted (total (contracts 3 1) named) 6 ∷ counted (total (contracts 4 0) named) 5 ∷ counted (total (contracts 4 1) named) 0
     ∷ counted (total (contracts_at 3 0 115) named) 5 ∷ counted (total (contracts_at 3 0 120) named) 7 ∷ counted (total (contracts_at 3 1 120) named) 0

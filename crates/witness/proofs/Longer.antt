@@ -27,7 +27,7 @@ use Rattle.rules.specs.Calls.{settings}
 use Rattle.rules.specs.Sums.{generated_of, total}
 use Rattle.rules.specs.Opened.{opened-rules}
 use Rattle.rules.proofs.Tests.{and_l, and_r}
-use Rattle.demands.specs.Demand.{Seen, by_run, call_upon, calls, extend, given_to, opening, parts, start}
+use Rattle.demands.specs.Demand.{Accepted, Seen, by_run, call_upon, calls, extend, given_to, opening, parts, start}
 use Rattle.demands.specs.Soundness.{SoundAt}
 use Rattle.demands.specs.LimitedSweeps.{Stays, looks, looks_all, looks_by, looks_in, resting, round}
 use Rattle.demands.specs.Truth.{venue_after}

@@ -5,7 +5,7 @@ use Prim.Native.Nat.{◌<◌, suc, zero, ℕ}
 use native.Mathlib.Omega.{arith}
 use lib.ListN.{get_or, length}
 use borrow.Author.Tests.{ltb-true}
-use Rattle.rules.specs.Records.{answer, cancelled}
+use Rattle.rules.specs.Records.{Report, answer, cancelled}
 use Rattle.rules.specs.Opened.{opened-rules}
 use Rattle.demands.specs.Demand.{call_upon, calls, extend, given_to, opening, parts, start}
 use Rattle.witness.specs.Witness.{Witness, arriving, at_end, bytes_of, causes, kind_of, later, of_kind, regular_sums, session, sums, unit_sums}

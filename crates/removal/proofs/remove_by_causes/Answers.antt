@@ -26,7 +26,7 @@ loop-rest-preserved c =
     let few : c.loop-rest.n < 16 = let i = c.loop-rest.invariant in
     left-few i.1 i.0.few c.loop-rest-test.true in
     let i = c.loop-rest.invariant in (
-      removing-turn _ i.0 _ _ _ _ few (left_here i.1 _ ∙ sym c.verdict_by.ensures ∙ c.in-Some.is) (omega arith) (c.remove_one-pos.ensures.place_after, c.remove_one-pos.ensures.counts),
+      removing-turn _ i.0 _ _ _ _ few (left_here i.1 _ ∙ sym c.verdict_by.ensures ∙ c.in-Fails.is) (omega arith) (c.remove_one-pos.ensures.place_after, c.remove_one-pos.ensures.counts),
       left-on i.1 few,
     )
 

@@ -1,6 +1,6 @@
 -- `settling::others_stand` meets its contract.
 use Rattle.settling.proofs.CausesFound.{stand-own, stand-free, stand-past, stand-fails, stand-end, stand-all}
-use mathlib.Core.Path.{sym, ◌∙◌}
+use mathlib.Core.Path.{◌∙◌}
 use borrow.Author.Rules.{rules}
 use Rattle.settling.proofs.others_stand.Goals as goal
 
@@ -31,17 +31,17 @@ loop-n-preserved c = (
       c.args.m
       c.loop-n.n
       c.loop-n-test.true c.if-n-m.false
-      c.judge.result c.judge.ensures (sym c.is_some.ensures ∙ c.if-is_some.false)
+      c.judge.result c.judge.ensures c.in-Stands.is
       ∙ c.loop-n.invariant.1,
 )
 
-pub returns-then-is_some : goal.returns-then-is_some
-returns-then-is_some c =
+pub returns-in_default : goal.returns-in_default
+returns-in_default c =
     stand-fails c.args.numbers.now
     c.args.m
     c.loop-n.n
     c.loop-n-test.true c.if-n-m.false
-    c.judge.result c.judge.ensures (sym c.is_some.ensures ∙ c.if-is_some.true)
+    c.judge.result c.judge.ensures _ c.in_default.is
     ∙ c.loop-n.invariant.1
 
 pub returns : goal.returns

@@ -1,13 +1,11 @@
 -- `soundness::legging_sound` meets its contract.
-use Rattle.std.specs.Prelude.{Bool, true, false, not, is_some, None, Option, Some}
-use mathlib.Core.Path.{◌≡◌, refl, sym, ap, ◌∙◌}
+use mathlib.Core.Path.{sym, ap, ◌∙◌}
 use Prim.Native.Nat.{◌/◌, ◌%◌}
-use Rattle.rules.specs.declared.Cause.{Cause}
 use Rattle.rules.specs.Standing.{verdict, stands}
 use Rattle.rules.specs.Sound.{legging_sound}
 use Rattle.places.specs.Layout.{venue_of}
 use Rattle.soundness.specs.Checked.{legging_in_range, has_home}
-use Rattle.sound_places.proofs.Passes.{first-fails, second-fails, last-decides}
+use Rattle.sound_places.proofs.Passes.{first-fails, second-fails, third-fails, last-decides}
 use Rattle.places.proofs.Parts.{legging-at}
 use Rattle.soundness.proofs.Beside.{sound-free, sound-held}
 use Rattle.soundness.proofs.legging_sound.Goals as goal
@@ -30,20 +28,24 @@ returns-then-not-has_home c = let v = venue_of c.args.numbers.now in
     (sym c.has_home.ensures ∙ c.if-not-has_home.true) ∙ sound-held v n l c.if-l-eq0.false
     ∙ ap (legging_sound v n) c.legging_at-l.ensures
 
--- an order stands where its test names no cause
-stands-none : (x : Option Cause) (b : Bool) → is_some x ≡ not b → b ≡ stands x
+pub returns-in_default : goal.returns-in_default
 unfolding stands
-stands-none None true e = refl
-stands-none None false e = e
-stands-none (Some c) true e = e
-stands-none (Some c) false e = refl
+returns-in_default c = let v = venue_of c.args.numbers.now in let n = c.args.n in
+    let l = c.legging_at-l.result in
+    third-fails (legging_in_range l) (has_home v l (n / 2) (n % 2)) (stands (verdict v n l))
+    (ap stands ((sym (c.judge.ensures ∙ ap (verdict v n)
+    (legging-at c.args.numbers.now n c.requires.place
+    ∙ sym c.legging_at-l.ensures))) ∙ c.in_default.is))
+    ∙ sound-held v n l c.if-l-eq0.false ∙ ap (legging_sound v n)
+    c.legging_at-l.ensures
 
 pub returns : goal.returns
+unfolding stands
 returns c = let v = venue_of c.args.numbers.now in let n = c.args.n in
     let l = c.legging_at-l.result in
-    (stands-none c.judge.result _ c.is_none.ensures ∙ ap stands (c.judge.ensures ∙ ap (verdict v n)
+    sym (ap stands ((sym (c.judge.ensures ∙ ap (verdict v n)
     (legging-at c.args.numbers.now n c.requires.place
-    ∙ sym c.legging_at-l.ensures)))
+    ∙ sym c.legging_at-l.ensures))) ∙ c.in-Stands.is))
     ∙ last-decides (legging_in_range l) (has_home v l (n / 2) (n % 2)) (stands (verdict v n l))
     (sym c.legging_in_range.ensures ∙ c.if-not-legging_in_range.false)
     (sym c.has_home.ensures ∙ c.if-not-has_home.false) ∙ sound-held v n l
