@@ -255,13 +255,41 @@ pub fn verdict_number(verdict: Verdict) -> u8
     }
 }
 
+// What tells why a message's bytes are refused: the refusal, or its number.
+pub trait Refuses {
+    // Its number.
+    ghost number_of: { Self → ℕ };
+
+    // Its number.
+    fn refused_with(self) -> u8
+        ensures { result ≡ number_of self };
+}
+
+impl Refuses for Refusal {
+    ghost number_of = { refusal_number };
+
+    // The refusal's number.
+    fn refused_with(self) -> u8 {
+        refusal_number(self)
+    }
+}
+
+impl Refuses for u8 {
+    ghost number_of = { λ x. x };
+
+    // The number itself.
+    fn refused_with(self) -> u8 {
+        self
+    }
+}
+
 // The refusal, 1 to 4 or 14, that a message's bytes meet; 0 if none.
-pub fn decoded_number(decoded: Result<Message, u8>) -> u8
-    ensures { result ≡ decoded_number decoded }
+pub fn decoded_number<E: Refuses>(decoded: Result<Message, E>) -> u8
+    ensures { result ≡ decoded_number E.number_of decoded }
 {
     match decoded {
         Ok(_) => 0,
-        Err(number) => number,
+        Err(refusal) => refusal.refused_with(),
     }
 }
 

@@ -98,10 +98,10 @@ in_range k (LimitedSweep n) = within 1 32 n
 unfoldable pub equal_ratios : List ℕ → Bool
 equal_ratios bs = eqb (kind_field bs) 10 && eqb (u8_at bs 21) (u8_at bs 22)
 
--- the refusal's number that a decoding tells; 0 for a message
-abbrev pub decoded_number : Result Message ℕ → ℕ
-decoded_number (Ok m) = 0
-decoded_number (Err x) = x
+-- The refusal's number that a decoding tells; 0 for a message. `number` is `refusal_number` of what `decoded` tells.
+abbrev pub decoded_number : {E : Type 0} → (number : E → ℕ) → Result Message E → ℕ
+decoded_number number (Ok m) = 0
+decoded_number number (Err r) = number r
 
 -- The message at the front of bs, or the first of 1 to 4 and 14 that its bytes meet. 14 is decided here, before 11 to 13, and nothing can
 -- tell: 14 is of kind 10 alone, and kind 10 meets none of 11 to 13.
