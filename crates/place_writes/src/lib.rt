@@ -409,7 +409,7 @@ pub fn close_regulars(numbers: &mut Numbers)
     ensures { RegularsClosed numbers.old numbers.new }
 {
     let n = places::regulars_used(numbers);
-    let known = (numbers[places::REGULARS_KNOWN_AT] as usize).min(n);
+    let known = places::at_most(numbers[places::REGULARS_KNOWN_AT] as usize, n);
     let held = held_places::<Regular>(numbers, known, n);
     if held == n {
         numbers[places::REGULARS_KNOWN_AT] = n as u32;
@@ -426,7 +426,7 @@ pub fn close_complexes(numbers: &mut Numbers)
     ensures { ComplexesClosed numbers.old numbers.new }
 {
     let n = places::complexes_used(numbers);
-    let known = (numbers[places::COMPLEXES_KNOWN_AT] as usize).min(n);
+    let known = places::at_most(numbers[places::COMPLEXES_KNOWN_AT] as usize, n);
     let held = held_places::<Complex>(numbers, known, n);
     if held == n {
         numbers[places::COMPLEXES_KNOWN_AT] = n as u32;

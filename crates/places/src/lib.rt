@@ -114,18 +114,25 @@ pub struct Level {
     pub size: u64,
 }
 
+// x, but at most n.
+pub fn at_most(x: usize, n: usize) -> usize
+    ensures { result ≡ min x n }
+{
+    x.min(n)
+}
+
 // The regular places in use.
 pub fn regulars_used(numbers: &Numbers) -> usize
     ensures { (result ≡ regulars_used numbers.now) × (result ≤ 128) }
 {
-    (numbers[REGULARS_USED_AT] as usize).min(128)
+    at_most(numbers[REGULARS_USED_AT] as usize, 128)
 }
 
 // The complex places in use.
 pub fn complexes_used(numbers: &Numbers) -> usize
     ensures { (result ≡ complexes_used numbers.now) × (result ≤ 32) }
 {
-    (numbers[COMPLEXES_USED_AT] as usize).min(32)
+    at_most(numbers[COMPLEXES_USED_AT] as usize, 32)
 }
 
 // What stands at a regular place.

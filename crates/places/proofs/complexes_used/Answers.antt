@@ -5,4 +5,4 @@ use Rattle.places.proofs.complexes_used.Goals as goal
 
 pub returns : goal.returns
 unfolding complexes_used
-returns c = (c.min.ensures, omega (arith, c.min.ensures))
+returns c = (c.at_most.ensures, omega (arith, c.at_most.ensures))
