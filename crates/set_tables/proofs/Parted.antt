@@ -100,6 +100,28 @@ set-tail rs h = tail_of rs none_read none-blank (unfold none_read in (omega arit
 
 -- Counts ----------------------------------------------------------------------------------------
 
+-- a set has its 17 first records
+long : (rs : List (List ℕ)) (st : SetProgress) → Blank st → st.opened ≤ 17 → goes_on st rs ≡ true → 17 ≤ st.opened + length rs
+long [] st b s h = go (ltb st.opened 17) refl (unfold goes_on in h)
+  where
+    go : (t : Bool) → ltb st.opened 17 ≡ t → not t ≡ true → 17 ≤ st.opened + 0
+    go true e k = absurd (true≢false (sym k))
+    go false e k = let l = ltb-false st.opened 17 e in omega arith
+long (r ∷ rs) st b s h = go (ltb st.opened 17) refl (λ b' s' h'. long rs (onward st r) b' s' h')
+  where
+    go : (t : Bool) → ltb st.opened 17 ≡ t →
+        (Blank (onward st r) → (onward st r).opened ≤ 17 → goes_on (onward st r) rs ≡ true → 17 ≤ (onward st r).opened + length rs) → 17 ≤ st.opened +
+        suc (length rs)
+    go false e ih = let l = ltb-false st.opened 17 e in omega arith
+    go true e ih =
+        let early = ltb-true st.opened 17 e in
+        let k = opened-more st b r early in
+        let i = ih (blank-on st b r (step_part st r rs h early)) (omega arith) (step-goes st r rs h) in
+        omega arith
+
+pub set_long : (rs : List (List ℕ)) → is_set rs ≡ true → 17 ≤ length rs
+set_long rs h = let z : none_read.opened ≡ 0 = unfold none_read in refl in omega (arith, long rs none_read none-blank (omega arith) (none-goes rs h))
+
 -- how many records of each part
 pub record Counts (st : SetProgress) (rs : List (List ℕ)) : Type 0 where
   pub editions : st.editions + count_of tells_edition rs ≤ 32
