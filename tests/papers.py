@@ -28,7 +28,7 @@ Says each fault as FILE:LINE: what is wrong, and ends with status 1 where there 
   under "01", and every "Reading 14" is a number of docs/DECISIONS.md, section 2;
 - in crates.txt a crate uses only crates above it and has a line that says what it is for, and README's table "Layers" has its layers and crates;
 - no line outside tables and code is longer than 160 characters, and no path of a machine is told;
-- docs/ without docs/requests/, PORT.md and DESIGN-PASS.md is at most 105,000 bytes, and each note to a request (docs/requests/a.md and so on) at most 3,000.
+- docs/ without docs/requests/, PORT.md, DESIGN-PASS.md and LOOK-BACK.md is at most 105,000 bytes, and each note to a request (docs/requests/a.md and so on) at most 3,000.
 
 --names prints what the papers may name, a line for each file or crate. --write puts the lines of the sources into CROSSWALK
 first, where there is one line to put.
@@ -386,7 +386,7 @@ class Papers:
             self.fault("README.md", 1, "the rows of README's layers are not in the order of crates.txt, the last layer first")
 
     def size(self):
-        total = sum(os.path.getsize(p) for p in set(glob.glob("docs/*.md")) - {"docs/PORT.md", "docs/DESIGN-PASS.md"})
+        total = sum(os.path.getsize(p) for p in set(glob.glob("docs/*.md")) - {"docs/PORT.md", "docs/DESIGN-PASS.md", "docs/LOOK-BACK.md"})
         if total > MOST_BYTES:
             self.fault("docs", 0, f"{total} bytes, at most {MOST_BYTES}")
         for path in sorted(glob.glob("docs/requests/[a-z].md")):
