@@ -954,7 +954,10 @@ numbers =
     -- no length where there is no such kind
     ∷ counted (length_of 0) 0 ∷ counted (length_of 12) 0
     -- the numbers of answers that are enums
-    ∷ counted (verdict_number Stands) 0 ∷ counted (verdict_number (Fails NotOpen)) 6 ∷ counted (verdict_number (Fails NoUnit)) 10 ∷ counted (decoded_number refusal_number (Ok Sweep)) 0 ∷ counted (decoded_number refusal_number (Err WrongLength)) 3 ∷ counted (decoded_number (λ x. x) (Ok Sweep)) 0 ∷ counted (decoded_number (λ x. x) (Err 3)) 3
+    ∷ counted (verdict_number Stands) 0 ∷ counted (verdict_number (Fails NotOpen)) 6 ∷ counted (verdict_number (Fails NoUnit)) 10
+    -- the number that a decoding tells, where it names the refusal, and where it has the refusal's number
+    ∷ counted (decoded_number refusal_number (Ok Sweep)) 0 ∷ counted (decoded_number refusal_number (Err WrongLength)) 3
+    ∷ counted (decoded_number (λ x. x) (Ok Sweep)) 0 ∷ counted (decoded_number (λ x. x) (Err 3)) 3
     -- "contracts in a series from that series' 65, as taker or maker; pairs, or paired, from 66; crossed from 70, as taker or maker; cancelled from 71"
     ∷ counted (total (contracts 3 0) named) 12 ∷ counted (total (contracts 3 1) named) 6 ∷ counted (total (contracts 4 0) named) 5 ∷ counted (total (contracts 4 1) named) 0
     ∷ counted (total (contracts_at 3 0 115) named) 5 ∷ counted (total (contracts_at 3 0 120) named) 7 ∷ counted (total (contracts_at 3 1 120) named) 0
